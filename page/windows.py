@@ -12,11 +12,12 @@ import json
 import threading
 import time
 from dataclasses import replace
-from typing import Any, NamedTuple
+from typing import Any, Callable, Iterable, NamedTuple
 
-from terminal.answers import read_output, read_place
+from terminal.answers import Span, read_output, read_place, read_spans
 from terminal.pipe import Ended, Pipe
 from terminal.scratch import Launch
+from terminal.spans import OpenFrames
 from terminal.text import STACK, STACK_BYTES
 from terminal.timeline import Poke, Timeline, common, lines_between
 
@@ -43,7 +44,8 @@ SENT = WINDOW * 160
 
 
 class Overview:
-    """Whole stacks at equal distances, from the start on, as far as they have come."""
+    """Whole stacks at equal distances, from the start on, as far as they have come; and then the frames of these
+    stacks, each with where it begins and ends."""
 
     def __init__(self, table: Table, pokes: tuple[Poke, ...] = ()):
         self.pokes = pokes
@@ -53,6 +55,10 @@ class Overview:
         self.is_done = self.is_stopped = False
         self.begun, self.seconds = time.monotonic(), 0.0
         self.over = threading.Event()
+        # Frames that are in one of the stacks: first and last position, function, and how many are below.
+        self.spans: list[tuple[int, int | None, int, int]] = []
+        self.is_traced = self.is_exact = False
+        self.is_tracing = True
 
     def look(self, standing: Standing) -> Standing:
         """Leads a process to the end, takes a stack at each distance, and gives where it stands then."""
@@ -105,13 +111,37 @@ class Overview:
     def take(self, where: list[str]) -> None:
         self.stacks.append([self.functions[line.split(" ")[0]] for line in reversed(where[-MOST_DEPTH:])])
 
+    def trace(self, standing: Standing, is_over: Callable[[], bool]) -> Standing:
+        """Leads a process from the start to the end by `frames`, which tells where the frames of the stacks begin and
+        end; the others are shorter than the distance between two stacks."""
+        names = list(self.functions)
+        frames, at = OpenFrames([names[index] for index in self.stacks[0]]), 0
+        while at < self.moves and not is_over() and not self.is_stopped:
+            states = [self.at(min(at + index * self.stride, self.moves)) for index in range(AT_ONCE + 1)]
+            legs = [line for here, there in zip(states, states[1:]) for line in lines_between(here, there)]
+            for answer in standing.pipe.ask(*(self.traced(line) for line in legs)):
+                self.take_spans(frames.ended(read_spans(answer)))
+            standing, at = standing.stands(states[-1]), states[-1].position
+        self.take_spans(frames.lasting())
+        self.is_exact = at >= self.moves
+        return standing
+
+    def traced(self, line: str) -> str:
+        word, _, count = line.partition(" ")
+        return f"frames {count} {self.stride}" if word == "step" else line
+
+    def take_spans(self, spans: Iterable[Span]) -> None:
+        self.spans += [(span.begin or 0, span.end, self.functions[span.function], span.below)
+                       for span in spans if span.below < MOST_DEPTH]
+
     def has_come(self, position: int) -> bool:
         """Whether it is as far as a position, or at its end."""
         return self.is_done or self.moves >= position
 
     def told(self) -> dict[str, Any]:
         return {"stride": self.stride, "stacks": self.stacks, "moves": self.moves, "end": self.end,
-                "isDone": self.is_done, "most": MOST_MOVES,
+                "isDone": self.is_done, "most": MOST_MOVES, "spans": self.spans if self.is_exact else None,
+                "isTracing": self.is_tracing,
                 "seconds": round(self.seconds or time.monotonic() - self.begun, 3)}
 
 
@@ -201,6 +231,11 @@ class Pool:
         overview = self.overview
         try:
             fresh = self.fresh(overview)
+            if self.is_first(overview):
+                try:
+                    fresh = overview.trace(fresh, lambda: self.is_closed)
+                finally:
+                    overview.is_tracing = False
             while fresh.at.position < overview.moves and not self.is_closed:
                 fresh = fresh.go(overview.at(min(fresh.at.position + SLICE, overview.moves)))
             with self.lock:
@@ -212,6 +247,12 @@ class Pool:
             with self.come:
                 self.coming -= 1
                 self.come.notify_all()
+
+    def is_first(self, overview: Overview) -> bool:
+        """Whether no other process is led along an overview's frames."""
+        with self.lock:
+            is_first, overview.is_traced = not overview.is_traced, True
+            return is_first
 
     def close(self) -> None:
         """Ends all processes, also those that are on their way."""

@@ -80,6 +80,31 @@ def read_count(line: str) -> tuple[int, Place] | None:
     return int(count), Place(0, function, label, int(index))
 
 
+@dataclass(frozen=True)
+class Span:
+    """A frame along moves: the position of its first state, None if that was before, and that of the first state
+    without it, None if it lasts; its function, and how many frames are below it."""
+    begin: int | None
+    end: int | None
+    function: str
+    below: int
+
+
+def read_spans(lines: list[str]) -> list[Span]:
+    """The frames in the answer of `frames`."""
+    found = []
+    for line in lines:
+        word, _, rest = line.partition(" ")
+        if word == "frame":
+            begin, end, function, below = rest.split(" ")
+            found.append(Span(position_told(begin), position_told(end), function, int(below)))
+    return found
+
+
+def position_told(word: str) -> int | None:
+    return None if word == "-" else int(word[1:])
+
+
 def read_value(line: str) -> int | None:
     """The value of `%x = V`, or None of `%x unset`."""
     _, is_set, value = line.partition(" = ")

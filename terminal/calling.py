@@ -1,21 +1,28 @@
-"""The calls of a function along the whole run: where each is made, and with which arguments."""
+"""The calls of the whole run: those of a function, each with its arguments and where it is made; and the longest of
+all as a tree."""
 from __future__ import annotations
 
 from dataclasses import dataclass, field
+from typing import Sequence
 
 from .accesses import MOST_COUNTED
+from .answers import Span, read_spans, read_value
 from .asking import MOST_SHOWN, counted, told_bounds, whole_run
 from .conditions import quick_test
 from .elsewhere import names_meant
 from .expressions import Node, Unset, Wrong, evaluate, temporaries_of
 from .scratch import Counts, Hit
 from .shell import Shell, command
+from .spans import OpenFrames
 from .stopping import with_condition
 from .stops import Answered, questions_of
 from .text import Function
 from .timeline import Timeline
 from .values import brief
 from .waiting import Interrupted
+
+# The longest calls: how many are shown, of how much of the run at least, and how deep they are indented.
+MOST_FRAMES, MOST_PARTS, MOST_INDENT = 40, 2000, 30
 
 
 @dataclass
@@ -91,14 +98,20 @@ class Search:
         place = self.scratch.go(self.run.at(hit.position - 1)).place
         line = self.program.line_of(place.function, place.label, place.index)
         source = self.shell.screen.map.place(line)
-        given = []
-        for name, answer in zip(self.names, hit.answers):
-            value, width = int(answer[0].rpartition(" = ")[2]), self.function.temporaries[name]
-            called = self.shell.session.names.of(value) if width == "l" else None
-            given.append(f"{name}={brief(value, width, called)}")
+        values = [read_value(answer[0]) for answer in hit.answers]
         text = self.program.functions[place.function].at(place.label, place.index).written()
-        return f"#{hit.position} {self.function.name}({', '.join(given)})  called at {place}  line {line}: {text}" + \
-            (f"  ({source})" if source else "")
+        return f"#{hit.position} {call_told(self.shell, self.function, values)}  called at {place}  line {line}: " \
+               f"{text}" + (f"  ({source})" if source else "")
+
+
+def call_told(shell: Shell, function: Function, values: Sequence[int | None]) -> str:
+    """A function with the values of its parameters."""
+    given = []
+    for (_, name), value in zip(function.parameters, values):
+        width = function.temporaries[name]
+        called = shell.session.names.of(value) if width == "l" and value is not None else None
+        given.append(f"{name}={brief(value, width, called)}")
+    return f"{function.name}({', '.join(given)})"
 
 
 def quickly(condition: Node, questions: list[str], shell: Shell, function: Function) -> Counts | None:
@@ -110,14 +123,46 @@ def quickly(condition: Node, questions: list[str], shell: Shell, function: Funct
     return lambda _, answers: known(answers)
 
 
-@command("calls", "calls $f [if CONDITION]", "place", is_repeated=False)
+def longest(shell: Shell, run: Timeline) -> list[Span]:
+    """The frames of a run that take most moves, in the order in which they begin. One that is left out has none inside
+    it that is shown, since that would be no longer."""
+    scratch, least = shell.session.scratch, max(1, run.position // MOST_PARTS)
+    start = scratch.go(run.at(0)).where()
+    frames, found = OpenFrames([place.function for place in reversed(start)]), list[Span]()
+    for answer in scratch.along(run.at(0), run, lambda moves: f"frames {moves} {least}"):
+        found += [span for span in frames.ended(read_spans(answer)) if length_of(span, run) >= least]
+    found = sorted(found + frames.lasting(), key=lambda span: (-length_of(span, run), span.begin or 0, span.below))
+    return sorted(found[:MOST_FRAMES], key=lambda span: (span.begin or 0, span.below))
+
+
+def length_of(span: Span, run: Timeline) -> int:
+    return (run.position if span.end is None else span.end) - (span.begin or 0)
+
+
+def tree_told(shell: Shell, run: Timeline) -> None:
+    """The longest calls of a run, each below the one that makes it."""
+    for span in longest(shell, run):
+        share = 100 * length_of(span, run) / max(1, run.position)
+        end = "on" if span.end is None else f"to #{span.end}"
+        function = shell.session.program.functions[span.function]
+        there = shell.session.scratch.go(run.at(span.begin or 0))
+        told = call_told(shell, function, there.values(*(name for _, name in function.parameters)))
+        shell.say(f"{share:5.1f}%  {'  ' * min(span.below, MOST_INDENT)}{told}  from #{span.begin} {end}")
+    shell.say(f"the longest calls {told_bounds(shell, run)}")
+
+
+@command("calls", "calls [$f [if CONDITION]]", "place", is_repeated=False)
 def calls(shell: Shell, rest: str) -> None:
     """Lists the calls of a function in the whole run, with the arguments of each and where it is made; those nearest to
-    where the session stands, if there are many. A condition is about the parameters. It doesn't move the session."""
+    where the session stands, if there are many. A condition is about the parameters. Alone it shows which calls take
+    most moves, each below its caller. It doesn't move the session."""
+    if not rest.strip():
+        tree_told(shell, whole_run(shell))
+        return
     program = shell.session.program
     what, condition, _ = with_condition(shell, rest)
     if not what:
-        raise Wrong("calls $FUNCTION was expected")
+        raise Wrong("calls $FUNCTION was expected before `if`")
     name = shell.function_named(what)
     if name not in program.functions:
         raise Wrong(f"{what}: a function was expected; there are {names_meant(what, list(program.functions))}")

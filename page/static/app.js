@@ -16,7 +16,8 @@ import {Values} from "./values.js";
 import {WIDTHS, spaced} from "./program.js";
 import {byId} from "./element.js";
 
-const MOST_PINS = 4, LEAST_WIDE = 12, SETTLE = 40, SAID = 3000, A_SIGN = 50, OVERVIEW = 120;
+const MOST_PINS = 4, LEAST_WIDE = 12, SETTLE = 40, SAID = 3000, A_SIGN = 50, OVERVIEW = 120,
+  TRACED = 1000;
 // When it is said that another window takes a while, and how long one looks before telling what is left, in milliseconds.
 const LATE = 400, SOON = 500, ON_THE_WAY = "on the way";
 
@@ -187,7 +188,9 @@ class App {
     bar.hidden = told.isDone;
     bar.value = told.moves / told.most;
     clearTimeout(this.overviewing);
-    if (!told.isDone) this.overviewing = setTimeout(() => this.overviewed().catch(() => {}), OVERVIEW);
+    if (!told.isDone || told.isTracing) {
+      this.overviewing = setTimeout(() => this.overviewed().catch(() => {}), told.isDone ? TRACED : OVERVIEW);
+    }
   }
 
   /** Another window of a long run, with the cursor at a position of the whole run; of many wishes the last one counts. */

@@ -204,20 +204,22 @@ export class Timeline {
     return depths;
   }
 
-  /** Of a run that is too long for arrays: whole stacks at equal distances. Between them nothing is said. */
+  /** Of a run that is too long for arrays: whole stacks at equal distances, between which nothing is said; once they are
+      known, the frames in these stacks from where they begin to where they end. */
   sampled() {
-    const {context, app} = this, {stacks, stride, most} = app.long, moves = app.wholeMoves,
+    const {context, app} = this, {stacks, stride, most, spans} = app.long, moves = app.wholeMoves,
       tall = this.overviewTall - 8;
     context.fillStyle = this.color("sunken");
     context.fillRect(SIDE, 2, this.span, tall);
-    const row = tall / Math.max(1, most), wide = stride / moves * this.span;
-    for (let column = 0; column < stacks.length; column++) {
-      for (let depth = 0; depth < stacks[column].length; depth++) {
-        context.fillStyle = this.color(`f${stacks[column][depth] % 8}`);
-        context.fillRect(SIDE + column * wide, 2 + depth * row, Math.max(1, wide) + .3,
-          Math.max(1, row - (row > 3 ? .5 : 0)));
-      }
-    }
+    const row = tall / Math.max(1, most), thick = Math.max(1, row - (row > 3 ? .5 : 0));
+    const bar = (begin, end, func, depth) => {
+      context.fillStyle = this.color(`f${func % 8}`);
+      context.fillRect(SIDE + begin / moves * this.span, 2 + depth * row,
+        Math.max(1, (end - begin) / moves * this.span) + .3, thick);
+    };
+    if (spans) for (const [begin, end, func, depth] of spans) bar(begin, end ?? moves, func, depth);
+    else stacks.forEach((stack, column) => stack.forEach((func, depth) =>
+      bar(column * stride, Math.min((column + 1) * stride, moves), func, depth)));
     context.fillStyle = this.color("fault");
     for (const {position} of app.suspicions) context.fillRect(SIDE + position / moves * this.span - 1, tall - 6, 3, 8);
     const left = SIDE + app.run.base / moves * this.span,
@@ -401,8 +403,21 @@ export class Timeline {
     const [x, y] = this.where(event);
     if (this.isDragged) return this.drag(x);
     this.hover = y > this.overviewTall && x >= SIDE ? this.clamp(this.position(x)) : null;
-    this.app.tip(this.hover === null ? null : this.told(Math.max(0, Math.floor(this.position(x))), y), event);
+    this.app.tip(this.hover === null ? this.spanTold(x, y) : this.told(Math.max(0, Math.floor(this.position(x))), y), event);
     return this.draw();
+  }
+
+  /** The frame of the overview of a long run under the pointer, if it is known where it begins and ends. */
+  spanTold(x, y) {
+    const {app} = this, {spans, most} = app.long ?? {};
+    if (!spans || x < SIDE || y > this.overviewTall - 6) return null;
+    const at = (x - SIDE) / this.span * app.wholeMoves, row = Math.floor((y - 2) / ((this.overviewTall - 8) / Math.max(1, most)));
+    const near = app.wholeMoves / this.span, found = spans.filter(([begin, end, , depth]) =>
+      depth === row && begin <= at && at < Math.max(end ?? Infinity, begin + near)).pop();
+    if (!found) return null;
+    const [begin, end, func] = found, {name} = app.program.functions[func];
+    return end === null ? `${name} from #${spaced(begin)} on` :
+      `${name}, ${spaced(end - begin)} moves from #${spaced(begin)}`;
   }
 
   /** What a place of the timeline says: the bar or the access there, and the instruction. */

@@ -189,6 +189,7 @@ def windows(program: str) -> str | None:
                 frames = [line.split(" ")[0] for line in reversed(answers.pipe.ask("where")[0])]
                 if stack != frames:
                     return f"the stack at #{index * told[2]} is {stack} and not {frames}"
+            found += span_faults(browser, answers, told[2], told[3])
             for position in (30_000, 2_000, 17_777, answers.length):
                 base = browser.run(f"app.reach({position}).then(() => app.run.base)")
                 moves = browser.run("app.run.moves")
@@ -204,6 +205,34 @@ def windows(program: str) -> str | None:
         browser.close()
         answers.pipe.close()
     return found[0] if found else None
+
+
+def span_faults(browser: Browser, answers: Answers, stride: int, stacks: list[list[str]]) -> list[str]:
+    """Each frame of the overview is there from where it begins to where it ends, and together they are its stacks."""
+    browser.run("(async () => { while (app.long.isTracing) await new Promise(done => setTimeout(done, 20)); })()")
+    spans = browser.run("app.long.spans?.map(([begin, end, func, depth]) => "
+                        "[begin, end, app.program.functions[func].name, depth])")
+    if not spans:
+        return ["the overview has no frames"]
+
+    def stack_at(position: int) -> list[str]:
+        answers.go(position)
+        return [line.split(" ")[0] for line in reversed(answers.pipe.ask("where")[0]) if line != "none"]
+    found = []
+    for begin, end, name, depth in spans:
+        last = answers.length if end is None else end
+        around = [(begin - 1, False), (begin, True), (last - 1, True)] + [(last, False)] * (end is not None)
+        for position, is_there in around:
+            if position >= 0 and (stack_at(position)[depth:depth + 1] == [name]) < is_there or \
+                    position >= 0 and not is_there and len(stack_at(position)) > depth:
+                found.append(f"{name} from #{begin} to #{end} isn't so at #{position}")
+    for index, stack in enumerate(stacks):
+        at = index * stride
+        there = sorted((depth, name) for begin, end, name, depth in spans
+                       if begin <= at and (end is None or at < end))
+        if there != list(enumerate(stack)):
+            found.append(f"the frames at #{at} are {there} and not {stack}")
+    return found
 
 
 def hide_unknown(shown: dict[str, Any], answers: Answers, position: int) -> None:

@@ -280,7 +280,10 @@ SOUGHT: Lines = [
 
 # Fibonacci's number of 6 takes 25 calls, of which 8 are of 1 and 5 of 0.
 CALLED: Lines = [
-    ("calls", ["calls $FUNCTION was expected"]), ("calls none", ["none: a function was expected; there are $fib, $"]),
+    ("calls", ["100.0%  $main()  from #0 to #137\n 98.5%    $fib(%n=6)  from #1 to #136\n",
+               "\n  2.2%          $fib(%n=0)  from #127 to #130\nthe longest calls in the run from #0 to #137 done 8"]),
+    ("calls if %n", ["calls $FUNCTION was expected before `if`"]),
+    ("calls none", ["none: a function was expected; there are $fib, $main"]),
     ("calls fib", ["#1 $fib(%n=6)  called at #0 $main @start 0  line 20: ", "25 calls of $fib in the run from #0 to",
                    "\n#5 $fib(%n=5)  called at #4 $fib @large 1  line 11: "]),
     ("s 50", []), ("calls $fib if %n < 2", ["13 calls of $fib in the run"]),
