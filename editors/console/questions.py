@@ -11,9 +11,9 @@ from typing import Any
 
 TOP = pathlib.Path(__file__).resolve().parent.parent.parent
 # Questions that change nothing, and of `info` those that aren't about the prompt's own stops.
-ASKING = frozenset(("why", "readers", "writers", "suspects", "made", "path", "when", "counts", "disas", "disassemble",
-                    "x", "bt", "backtrace"))
-INFORMING = frozenset(("data", "frame", "functions", "locals", "out", "source", "symbol", "temps"))
+ASKING = frozenset(("why", "readers", "writers", "suspects", "made", "path", "when", "calls", "counts", "disas",
+                    "disassemble", "x", "bt", "backtrace", "find", "search", "reverse-search", "whatis", "ptype"))
+INFORMING = frozenset(("args", "data", "frame", "functions", "line", "locals", "out", "source", "symbol", "temps"))
 WORDS = tuple(sorted((*ASKING, "goto", "help", "info")))
 # A line that the prompt answers alike in each state, before and behind an answer.
 MARK = 987654321
@@ -30,9 +30,10 @@ HELP = """In this console:
   set %x 5, poke w $d 5                         change
   why %x, why w $d, why, why N                  where a value comes from, and on from there
   readers $d, writers $d, when %x, path         what read it, wrote it, set it; the way through the function
-  counts, counts $f                             how often functions and lines ran
+  calls, calls $f, counts, counts $f            the longest calls, those of a function; how often lines ran
   suspects, made %x                             what no correct compiler's output does; what a value is made of
   disas, x/8xw $d, bt, info locals              the text of a function; memory; the frames
+  find 42, search TEXT, whatis %x               where memory holds a value; a line with a text; what a name is
   help why                                      more about a question
 docs/DEBUGGER.md and docs/TERMINAL.md have all of it.
 """

@@ -38,6 +38,10 @@ SQUARES = [
                  "1 suspicion in 88 moves, done 30"),
     ("goto 44", "#44 $fill @body 4"),
     ("bt", "> 0  $fill @body 4  line 18: storew %square, %place\n  1  $main @start 1  line 27: call $fill()"),
+    ("find 9", "65548 $squares+12\n1 place"), ("whatis %square", "%square: w, set at line 14"),
+    ("info line 22", "$fill @end 0  line 22: ret"), ("info args", "none"),
+    ("calls $fill", "#1 $fill()  called at #0 $main @start 0  line 27: call $fill()\n"
+     "1 call of $fill in the run from #0 to #88 done 30"),
     ("bt -1", "  1  $main @start 1  line 27: call $fill()"),
     ("made %place", "%place is made of the address of $squares (16 bytes)"),
     ("goto #44", "$fill @body 4\n$main @start 1"),
