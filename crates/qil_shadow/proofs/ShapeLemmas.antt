@@ -1,8 +1,8 @@
 -- How calls lie behind an instruction, and that nothing was found where an operand is unset.
 use Rattle.std.proofs.Common.{◌≡◌, ◌∙◌, sym, ap, subst, refl, ℕ, zero, suc, ◌+◌, ◌^◌, ◌<◌, ◌≤◌, List, [], ◌∷◌, length, map, Option, Some, None, option_map}
-use Rattle.std.specs.Prelude.{true, false, slice_get, is_none}
+use Rattle.std.specs.Prelude.{true, false, replicate, slice_get, is_none}
 use Rattle.std.proofs.lemmas.Bool.{true≢false}
-use Rattle.std.proofs.lemmas.List.{length-set}
+use Rattle.std.proofs.lemmas.List.{length-set, length-replicate}
 use Rattle.qil_tree.specs.declared.ops.AllocOp.{AllocOp}
 use Rattle.qil_tree.specs.declared.ops.Class.{Class}
 use Rattle.qil_tree.specs.declared.ops.Width.{Width}
@@ -15,7 +15,7 @@ use Rattle.qil_memory.specs.qil_layout.declared.callee.Callee.TheVariants.{Defin
 use Rattle.qil_memory.specs.qil_layout.declared.callee.FuncId.{FuncId}
 use Rattle.qil_memory.specs.qil_layout.Callee.{callee_at}
 use Rattle.qil_memory.specs.qil_layout.Layout.{rounded}
-use Rattle.qil_memory.specs.Buffers.{stack_end}
+use Rattle.qil_memory.specs.Buffers.{stack_base, stack_end}
 use Rattle.qil_semantics.specs.State.{State}
 use Rattle.qil_semantics.specs.Values.{first}
 use Rattle.qil_semantics.specs.Step.{alignment}
@@ -28,6 +28,7 @@ use Rattle.qil_code.specs.declared.numbered.NumberedInst.{NumberedInst}
 use Rattle.qil_code.specs.declared.numbered.NumberedInst.TheVariants as numbered
 use Rattle.qil_code.specs.Numbered.{names_of, receiver_of}
 use Rattle.qil_shadow.specs.declared.origin.Origin.{Origin}
+use Rattle.qil_shadow.specs.declared.origin.Origin.TheVariants as origins
 use Rattle.qil_shadow.specs.declared.suspicion.Place.{Place}
 use Rattle.qil_shadow.specs.declared.suspicion.Suspicion.{Suspicion}
 use Rattle.qil_shadow.specs.declared.object.Object.{Object}
@@ -39,7 +40,7 @@ use Rattle.qil_shadow.specs.Reads.{HasSlots}
 use Rattle.qil_shadow.specs.Kept.{Keeps, KeepsAll, KeepsButCalls, KeepsButMemory, KeepsRest}
 use Rattle.qil_shadow.specs.Entering.{origins_of, IsEntered}
 use Rattle.qil_shadow.specs.Instructions.{IsAt, IsInst, IsSound, RoomIsSound, KeepsButSlot}
-use Rattle.qil_shadow.specs.Shapes.{CallShape, shapes_of, with_called, shapes_behind, top_behind, LiesBehind, IsUnset, expr_operands, operands_of, KeepsOwn, HasLeft}
+use Rattle.qil_shadow.specs.Shapes.{CallShape, shapes_of, first_shape, with_called, shapes_behind, top_behind, LiesBehind, IsUnset, expr_operands, operands_of, KeepsOwn, HasLeft}
 use Rattle.qil_shadow.proofs.ValueLemmas.{none_held, same_held}
 use Rattle.qil_shadow.proofs.AllocLemmas.{IsAlloc, is_alloc, made_at}
 use Rattle.qil_shadow.proofs.AssignLemmas.{is_assign}
@@ -283,3 +284,12 @@ built_in_left {A} p place slots to callee args was mid now a called m value low 
       subst (λ (q : InstKind A). LiesBehind p i q vs was.calls now.calls) (sym k.same) (record { shapes_are = shapes; top_is = λ j. (now_calls j).top; starts_are = λ j. (now_calls j).objects.starts });
   unset = λ none. rest.found_is ∙ keeps.found_is;
 }
+
+-- ---- at the start of a run
+
+pub first_lies : {A : Type 0} (p : Program A) (fi n : ℕ) (cs : List CallShadow) → n ≡ length (names_of p fi)
+    → cs ≡ record { origins = replicate n origins.Number; floor = stack_base; receiver = None } ∷ [] → shapes_of cs ≡ first_shape p fi ∷ []
+first_lies p fi n cs e is = ap shapes_of is ∙ (λ i. record { slots = (length-replicate n origins.Number ∙ e) i; floor = stack_base; receiver = None } ∷ [])
+
+pub still_lies : {A : Type 0} (p : Program A) (fi : ℕ) (cs now : List CallShadow) (s : Slot) (m : Origin) → now ≡ with_held s m cs → shapes_of cs ≡ first_shape p fi ∷ [] → shapes_of now ≡ first_shape p fi ∷ []
+still_lies p fi cs now s m e is = ap shapes_of e ∙ shapes_held s m cs ∙ is

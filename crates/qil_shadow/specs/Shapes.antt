@@ -8,6 +8,7 @@ use Rattle.qil_memory.specs.qil_layout.Layout.{rounded}
 use Rattle.qil_memory.specs.qil_layout.declared.callee.Callee.{Callee}
 use Rattle.qil_memory.specs.qil_layout.declared.callee.Callee.TheVariants as callees
 use Rattle.qil_memory.specs.qil_layout.Callee.{callee_at}
+use Rattle.qil_memory.specs.Buffers.{stack_base}
 use Rattle.qil_semantics.specs.State.{State}
 use Rattle.qil_semantics.specs.Values.{first}
 use Rattle.qil_semantics.specs.Step.{alignment}
@@ -38,6 +39,10 @@ shape_of c = record { slots = length c.origins; floor = c.floor; receiver = c.re
 
 abbrev pub shapes_of : List CallShadow → List CallShape
 shapes_of cs = map shape_of cs
+
+-- that of the function of a number, at the start of a run
+abbrev pub first_shape : {A : Type 0} → Program A → ℕ → CallShape
+first_shape p i = record { slots = length (names_of p i); floor = stack_base; receiver = None }
 
 -- a call of a function is added, which has a slot for each of its temporaries
 abbrev pub with_called : {A : Type 0} → Program A → ℕ → Option CallResult → Option Callee → ℕ → List CallShape → List CallShape

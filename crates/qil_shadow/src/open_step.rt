@@ -261,21 +261,29 @@ impl<'c, A: Allocator + Copy> Shadow<'c, A> {
         }
     }
 
-    /// Looks at the bytes of the text that was written: so many, or fewer than `$puts` would read.
-    pub fn look_at_text(&mut self, count: Option<u64>) {
-        if let Some((address, origin)) = self.text {
-            let is_whole = match count {
-                Some(count) => {
-                    self.is_whole_text(address, origin, count)
-                        && !self.open.memory.has_open(address, count)
-                }
-                None => false,
-            };
-            if !is_whole {
-                self.open.note(self.position.saturating_sub(1));
+    /// Whether the text that was written may be wrong: it has so many bytes, or fewer than `$puts` would read.
+    fn is_text_unsure(&self, count: Option<u64>) -> bool {
+        let Some((address, origin)) = self.text else {
+            return false;
+        };
+        match count {
+            Some(count) => {
+                !self.is_whole_text(address, origin, count)
+                    || self.open.memory.has_open(address, count)
             }
+            None => true,
         }
+    }
+
+    /// Looks at the bytes of the text that was written: so many, or fewer than `$puts` would read.
+    pub fn look_at_text(&mut self, count: Option<u64>)
+        ensures { KeepsAll self.old self.new }
+    {
+        let is_unsure = self.is_text_unsure(count);
         self.text = None;
+        if is_unsure {
+            self.open.note(self.position.saturating_sub(1));
+        }
     }
 
     /// The first move of which more may be suspicious than its accesses: it uses open bits, or a number as an address, or calls what

@@ -286,12 +286,17 @@ impl<'c, A: Allocator + Copy> Shadow<'c, A> {
     }
 
     /// What was suspicious since the last time, in its order.
-    pub fn found(&self) -> &[Suspicion] {
+    pub fn found(&self) -> &[Suspicion]
+        ensures { result.now ≡ self.now.found.items }
+    {
         self.found.as_slice()
     }
 
     /// Forgets what was suspicious.
-    pub fn forget_found(&mut self) {
+    pub fn forget_found(&mut self)
+        ensures found { self.new.found.items ≡ [] }
+        ensures rest { Keeps self.old self.new }
+    {
         self.found.truncate(0);
     }
 }

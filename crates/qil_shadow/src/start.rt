@@ -16,6 +16,7 @@ ghost use Rattle.qil_shadow.specs.ObjectNumbers.{data_starts, AreStarts};
 ghost use Rattle.qil_shadow.specs.Numbered as Numbered;
 ghost use Rattle.qil_shadow.specs.Numbered.{frames_by, shadow_by};
 ghost use Rattle.qil_shadow.specs.Starting.{fixed, HasNoted, IsOf};
+ghost use Rattle.qil_shadow.specs.Shapes.{shapes_of, first_shape};
 
 use crate::calls::Calls;
 use crate::heap::Heap;
@@ -241,6 +242,7 @@ fn first_call<'c, A: Allocator + Copy>(
     func: FuncId,
 ) -> Result<OriginStack<A>, AllocError>
     ensures one { IfOk result (λ calls. length calls ≡ 1) }
+    ensures lies { IfOk result (λ calls. shapes_of calls ≡ first_shape code.now func.index ∷ []) }
     ensures frames { IfOk result (λ calls. (f : Func A) → func_at code.now func.index ≡ Some f
         → frames_by code.now (func.index ∷ []) calls ≡ with_origins none_set (map (λ q. (q.name, given q.abi_type)) f.params) ∷ []) }
 {
@@ -266,6 +268,7 @@ fn calls_at_start<'c, A: Allocator + Copy>(
         → shadow_by code.now (func.index ∷ []) calls.calls memory.new calls.objects.objects 0 ≡ shadow_at_start code.now f) }
     ensures starts { IfOk result (λ calls. AreStarts code.now calls.objects.starts) }
     ensures top { IfOk result (λ calls. calls.top ≡ stack_base) }
+    ensures lies { IfOk result (λ calls. shapes_of calls.calls ≡ first_shape code.now func.index ∷ []) }
 {
     let program = code.program();
     let _ = code.image().bytes();
@@ -296,6 +299,7 @@ impl<'c, A: Allocator + Copy> Shadow<'c, A> {
         ensures start { IfOk result (λ s. (f : Func A) → func_at code.now func.index ≡ Some f
             → shadow_by code.now (func.index ∷ []) s.calls.calls s.memory s.calls.objects.objects s.position ≡ shadow_at_start code.now f) }
         ensures own { IfOk result (λ s. IsOf code.now s.names s.calls.objects.starts s.data_end) }
+        ensures lies { IfOk result (λ s. shapes_of s.calls.calls ≡ first_shape code.now func.index ∷ []) }
         ensures rest { IfOk result (λ s. (s.calls.top ≡ stack_base) × (s.found.items ≡ []) × (s.heap.roles.items ≡ [])) }
     {
         let names = ObjectNames::new(alloc, keys, code.program())?;
