@@ -34,7 +34,7 @@ fn report_given<R: Print + RandomSource>(
         keys,
         entry: given.run.entry.as_bytes(),
         args: given.run.args.as_slice(),
-        limit: u64::from(given.run.limit),
+        limit: given.run.limit,
         heap: heap.as_bytes(),
     };
     let text = given.program.as_slice();

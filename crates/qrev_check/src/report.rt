@@ -40,7 +40,7 @@ pub struct Request<'r> {
     pub keys: RandomState,
     pub entry: &'r [u8],
     pub args: &'r [u64],
-    pub limit: u64,
+    pub limit: u32,
     pub heap: &'r [u8],
 }
 
@@ -91,7 +91,7 @@ fn outcome_of<A: Allocator + Copy>(pass: &Pass<'_, A>) -> Outcome {
 fn make_pass<A: Allocator + Copy, W: Write>(
     alloc: A,
     mut pass: Pass<'_, A>,
-    limit: u64,
+    limit: u32,
     out: &mut W,
 ) -> Outcome
     requires { pass.moves ≡ 0 }
