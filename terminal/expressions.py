@@ -153,7 +153,7 @@ class Parser:
     def single(self) -> Node:
         word = self.take()
         if word in POINTED:
-            raise Wrong(f"{word!r}: {POINTED[word]}")
+            raise Wrong(f"{word!r}: a number, %temporary, $name or w[ADDRESS] was expected; {POINTED[word]}")
         if word == "(":
             node = self.binary()
             self.expect(")")
