@@ -124,14 +124,15 @@ def quickly(condition: Node, questions: list[str], shell: Shell, function: Funct
 
 
 def longest(shell: Shell, run: Timeline) -> list[Span]:
-    """The frames of a run that take most moves, in the order in which they begin. One that is left out has none inside
-    it that is shown, since that would be no longer."""
+    """The frames of a run that take most moves, in the order in which they begin, but none of the runtime. One that is
+    left out has none inside it that is shown, since that would be no longer."""
     scratch, least = shell.session.scratch, max(1, run.position // MOST_PARTS)
     start = scratch.go(run.at(0)).where()
     frames, found = OpenFrames([place.function for place in reversed(start)]), list[Span]()
     for answer in scratch.along(run.at(0), run, lambda moves: f"frames {moves} {least}"):
         found += [span for span in frames.ended(read_spans(answer)) if length_of(span, run) >= least]
-    found = sorted(found + frames.lasting(), key=lambda span: (-length_of(span, run), span.begin or 0, span.below))
+    found = [span for span in found + frames.lasting() if shell.lowered.is_own(span.function)]
+    found.sort(key=lambda span: (-length_of(span, run), span.begin or 0, span.below))
     return sorted(found[:MOST_FRAMES], key=lambda span: (span.begin or 0, span.below))
 
 

@@ -127,8 +127,9 @@ def whatis(shell: Shell, rest: str) -> None:
     """Says what a name is: the class of a temporary and the lines that set it, the size of data, the parameters and the
     type of a function; or the class of an expression."""
     program, word = shell.session.program, rest.strip()
-    if word in program.functions:
-        shell.say(f"{word}: {function_told(program.functions[word])}")
+    name = shell.function_named(word)
+    if name in program.functions:
+        shell.say(f"{name}: {function_told(program.functions[name])}")
         return
     data = next((each for each in program.data if each.name == word), None)
     if data:
@@ -144,7 +145,7 @@ def whatis(shell: Shell, rest: str) -> None:
 
 
 def function_told(function: Function) -> str:
-    parameters = ", ".join(" ".join(each) for each in function.parameters)
+    parameters = ", ".join(f"{function.temporaries[name]} {name}" for _, name in function.parameters)
     return f"a function ({parameters}), which gives {function.type or 'nothing'}, line {function.line}"
 
 

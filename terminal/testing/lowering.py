@@ -182,6 +182,8 @@ FLOATS_LINES: Lines = [
     ("why out 2", ["was written by $printf, called at\n", "[2] d frame 0 $main alloc %.cells.1+0 = "]),
     ("why 2", ["stored %r, %.cells.1"]), ("goto why", []), ("bt", ["stored %r, %.cells.1"]),
     ("when %r > 1.3", ["1 time"]), ("writers l $table", [f"%r={SUM!r}"]),
+    ("calls area", ["%k=0.1)  called at #", "\n1 call of $area in the run"]), ("calls", ["  $area(%"]),
+    ("whatis %r", ["%r: d, set at line"]), ("whatis area", ["s %k), which gives l"]),
 ]
 
 

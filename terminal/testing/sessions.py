@@ -264,6 +264,7 @@ SOUGHT: Lines = [
     ("search", ["> 33 "]), ("search nosuch", ["nosuch: no line has it"]), ("search [", ["[: no line has it"]),
     ("search ^@b.dy", ["> 34 "]), ("whatis %i", ["%i: l, set at line 30"]), ("whatis %k", ["no such temporary"]),
     ("whatis $fill", ["$fill: a function (), which gives nothing, line 6"]), ("whatis w[$bias]", ["w[$bias]: w"]),
+    ("whatis main", ["$main: a function (), which gives w, line 25"]),
     ("ptype $squares", ["$squares: 16 bytes of data from 65536 on, line 3"]), ("whatis", ["whatis %x"]),
     ("info line 18", ["$fill @body 4  line 18: storew %square, %place"]),
     ("info line $fill @end", ["$fill @end 0  line 22: ret"]), ("find", ["find [WIDTH] VALUE"]),
