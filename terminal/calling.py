@@ -141,14 +141,16 @@ def length_of(span: Span, run: Timeline) -> int:
 
 
 def tree_told(shell: Shell, run: Timeline) -> None:
-    """The longest calls of a run, each below the one that makes it."""
+    """The longest calls of a run, each below the one that makes it; those in which the session stands are marked."""
+    here = shell.session.place.position
     for span in longest(shell, run):
+        mark = ">" if (span.begin or 0) <= here and (span.end is None or here < span.end) else " "
         share = 100 * length_of(span, run) / max(1, run.position)
         end = "on" if span.end is None else f"to #{span.end}"
         function = shell.session.program.functions[span.function]
         there = shell.session.scratch.go(run.at(span.begin or 0))
         told = call_told(shell, function, there.values(*(name for _, name in function.parameters)))
-        shell.say(f"{share:5.1f}%  {'  ' * min(span.below, MOST_INDENT)}{told}  from #{span.begin} {end}")
+        shell.say(f"{mark}{share:5.1f}%  {'  ' * min(span.below, MOST_INDENT)}{told}  from #{span.begin} {end}")
     shell.say(f"the longest calls {told_bounds(shell, run)}")
 
 

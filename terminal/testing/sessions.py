@@ -281,8 +281,8 @@ SOUGHT: Lines = [
 
 # Fibonacci's number of 6 takes 25 calls, of which 8 are of 1 and 5 of 0.
 CALLED: Lines = [
-    ("calls", ["100.0%  $main()  from #0 to #137\n 98.5%    $fib(%n=6)  from #1 to #136\n",
-               "\n  2.2%          $fib(%n=0)  from #127 to #130\nthe longest calls in the run from #0 to #137 done 8"]),
+    ("calls", [">100.0%  $main()  from #0 to #137\n  98.5%    $fib(%n=6)  from #1 to #136\n",
+               "\n   2.2%          $fib(%n=0)  from #127 to #130\nthe longest calls in the run from #0 to #137 done"]),
     ("calls if %n", ["calls $FUNCTION was expected before `if`"]),
     ("calls none", ["none: a function was expected; there are $fib, $main"]),
     ("calls fib", ["#1 $fib(%n=6)  called at #0 $main @start 0  line 20: ", "25 calls of $fib in the run from #0 to",
@@ -291,6 +291,7 @@ CALLED: Lines = [
     ("calls main", ["0 calls of $main in the run"]),
     ("calls fib if %n == 1", ["$fib(%n=1)", "8 calls"]), ("calls fib if %sum", ["%sum: $fib has no such parameter"]),
     ("calls fib if w[%n] > 1", ["parameters and memory at fixed addresses were expected"]), ("call fib", ["can't be"]),
+    ("goto 6", ["#6 $fib"]), ("calls", ["> 58.4%      $fib(%n=5)  from #5 to #85\n  34.3%        $fib(%n=4"]),
     ("goto 1", ["#1 $fib"]), ("set %n 3", ["#2 $fib"]), ("calls fib", ["#1 $fib(%n=6)", "\n5 calls of $fib in"]),
 ]
 
