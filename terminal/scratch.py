@@ -297,14 +297,20 @@ class Scratch:
             is_oldest = OLDEST in text or OLDER in text
             if not self.followed(text[at:text.index("\n", at)] if at else "", command, is_oldest):
                 return
+            passed: Hit | None = None
             for reason, line, answers in stops_told(text, many):
                 stop = indices.get(reason)
                 if counts and stop is not None and not counts(stop, answers):
+                    passed = Hit(0, stop, line, answers)
                     continue
+                passed = None
                 if stop is not None or reason in ENDS:
                     yield Hit(int(line[1:line.index(" ")]), stop, line, answers)
                 if reason in ENDS:
                     return
+            if passed:
+                # So that it is known how far the run has come.
+                yield passed._replace(position=passed.place.position)
             if self.is_far_enough(last, is_forward, is_oldest):
                 return
             size = next_size(size, most, begun)
