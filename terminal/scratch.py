@@ -23,7 +23,7 @@ FAR = 8 * SLICE
 # The debugger takes no more moves for one `step` or `back`.
 MOST_MOVES = (1 << 32) - 1
 # A batch that took less than this, in seconds, is followed by a larger one.
-SHORT = 0.1
+SHORT = 0.03
 MOST_BYTES = 256
 # A stop as it is told: why, by which stop if by one, and where.
 TOLD = re.compile(r"stop: (\w+)(?: (\d+))?\n(#(\d+) .*)\n")
