@@ -112,6 +112,16 @@ def told_bounds(shell: Shell, run: Timeline) -> str:
     return f"in the run from #0 to {scratch.place}" + ("" if scratch.place.end else ", which goes on")
 
 
+def told_search(shell: Shell, run: Timeline, total: int, looked_at: range, is_stopped: bool) -> str:
+    """What is said behind the number of what a search found from the session's position on: whether some of it is shown
+    alone, and from where to where the run was looked at."""
+    more = f" (the {MOST_SHOWN} nearest to #{shell.session.place.position} are shown)" if total > MOST_SHOWN else ""
+    if looked_at == range(run.position):
+        return f"{more} {told_bounds(shell, run)}"
+    why = "Ctrl-C stopped the search" if is_stopped else f"the search stops behind {MOST_COUNTED}"
+    return f"{more} {told_bounds(shell, run)}; only from #{looked_at.start} to #{looked_at.stop}, since {why}"
+
+
 def counted(number: int, what: str) -> str:
     return f"{number} {what}" + ("" if number == 1 else "s")
 
@@ -128,13 +138,9 @@ def accesses(shell: Shell, rest: str, is_write: bool) -> None:
     by_hand = pokes_meeting(shell, run, address, count) if is_write else []
     lines.update({poke.position: f"#{poke.position} by hand: {poke.line}" for poke in by_hand})
     shell.say(*(lines[position] for position in sorted(lines)))
-    more = f" (the {MOST_SHOWN} nearest to #{here} are shown)" if survey.total > MOST_SHOWN else ""
     hand = f" and {len(by_hand)} by hand" if by_hand else ""
-    bounds = told_bounds(shell, run)
-    if survey.looked_at != range(run.position):
-        why = "Ctrl-C stopped the search" if survey.is_stopped else f"the search stops behind {MOST_COUNTED}"
-        bounds += f"; only from #{survey.looked_at.start} to #{survey.looked_at.stop}, since {why}"
-    shell.say(f"{counted(survey.total, 'write' if is_write else 'read')}{hand}{more} {bounds}")
+    shell.say(f"{counted(survey.total, 'write' if is_write else 'read')}{hand}"
+              f"{told_search(shell, run, survey.total, survey.looked_at, survey.is_stopped)}")
 
 
 def pokes_meeting(shell: Shell, run: Timeline, address: int, count: int) -> list[Poke]:

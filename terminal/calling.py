@@ -7,7 +7,7 @@ from typing import Sequence
 
 from .accesses import MOST_COUNTED
 from .answers import Span, read_spans, read_value
-from .asking import MOST_SHOWN, counted, told_bounds, whole_run
+from .asking import MOST_SHOWN, counted, told_bounds, told_search, whole_run
 from .conditions import quick_test
 from .elsewhere import names_meant
 from .expressions import Node, Unset, Wrong, evaluate, temporaries_of
@@ -179,9 +179,5 @@ def calls(shell: Shell, rest: str) -> None:
     search = Search(shell, function, condition, run)
     found = search.around(here)
     shell.say(*(search.told(hit) for hit in found.shown))
-    more = f" (the {MOST_SHOWN} nearest to #{here} are shown)" if found.total > len(found.shown) else ""
-    bounds = told_bounds(shell, run)
-    if (found.low, found.high) != (0, run.position):
-        why = "Ctrl-C stopped the search" if found.is_stopped else f"the search stops behind {MOST_COUNTED}"
-        bounds += f"; only from #{found.low} to #{found.high}, since {why}"
-    shell.say(f"{counted(found.total, 'call')} of {name}{more} {bounds}")
+    shell.say(f"{counted(found.total, 'call')} of {name}"
+              f"{told_search(shell, run, found.total, range(found.low, found.high), found.is_stopped)}")
