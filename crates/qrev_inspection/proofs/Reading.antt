@@ -1,6 +1,6 @@
 -- Bytes that are read one after the other.
 use Rattle.std.proofs.Common.{◌≡◌, ap, sym, subst, ℕ, zero, suc, ◌+◌, ◌-◌, ◌<◌, ◌≤◌, ◌^◌, ◌%◌, List, [], ◌∷◌, ◌++◌, length, Option, Some, None, Bool, true, false, inl, inr, arith}
-use Rattle.std.specs.Prelude.{ℤ, pos, negsuc, cond, codes, decimal, min, slice_get, int_lt, unsigned_abs, option_and_then, ok_or, IfSome, MatchOption, FitsSigned}
+use Rattle.std.specs.Prelude.{ℤ, pos, negsuc, cond, codes, decimal, min, slice_get, int_lt, unsigned_abs, option_and_then, ok_or, MatchOption, FitsSigned}
 use Rattle.std.specs.Int.{w64}
 use Rattle.std.specs.Str.Parse.{ParsesSigned}
 use Rattle.std.proofs.Math.Facts.{sfits_lit}
@@ -41,9 +41,18 @@ pub some_unreadable : (count read m : ℕ) → m ≡ min count read_limit → re
 some_unreadable count read m is lt =
     ap (λ (b : Bool). cond b (key (codes "unreadableBytes") ∷ number (decimal (count - read)) ∷ []) []) (lt-ltb read (min count read_limit) (subst (λ (k : ℕ). read < k) is lt))
 
-pub offset_found : (json : Option Json) (r : Option ℤ) → IsSignedIn (codes "offset") json r → IfSome r (SaysOffset json)
-offset_found json None said = tt
-offset_found json (Some offset) said = inr said
+-- a number that isn't there is none
+none_signed : (said : Option (List ℕ)) (offset : ℤ) → MatchOption said (◌≡◌ {A = Option ℤ} None None) (λ digits. ParsesSigned w64 10 digits (ok_or None digits)) → MatchOption said (Some offset ≡ None) (λ digits. ParsesSigned w64 10 digits (ok_or (Some offset) digits)) → ⊥
+none_signed None offset none some = cc
+none_signed (Some digits) offset none some = none some.0
+
+none_offset : (json : Option Json) (offset : ℤ) → (member_in (codes "offset") json ≡ None → ⊥) → IsSignedIn (codes "offset") json None → SaysOffset json offset → ⊥
+none_offset json offset there none (inl absent) = there absent.0
+none_offset json offset there none (inr said) = none_signed (option_and_then as_number (member_in (codes "offset") json)) offset none said
+
+pub offset_found : (json : Option Json) (r : Option ℤ) → (member_in (codes "offset") json ≡ None → ⊥) → IsSignedIn (codes "offset") json r → MatchOption r ((offset : ℤ) → SaysOffset json offset → ⊥) (SaysOffset json)
+offset_found json None there said = λ offset. none_offset json offset there said
+offset_found json (Some offset) there said = inr said
 
 -- an offset that is said fits into 64 bits
 fits_in : (said : Option (List ℕ)) (offset : ℤ) → MatchOption said (Some offset ≡ None) (λ digits. ParsesSigned w64 10 digits (ok_or (Some offset) digits)) → FitsSigned w64 offset

@@ -8,6 +8,9 @@ use Rattle.json.specs.Token.{Token, key, string, number}
 use Rattle.json.specs.Written.{Written}
 use Rattle.qil_memory.specs.Live.{Live}
 use Rattle.qrev_protocol.specs.Outgoing.{Adds}
+use Rattle.qrev_debuggee.specs.declared.failure.Failure.{Failure}
+use Rattle.qrev_debuggee.specs.declared.failure.Failure.TheVariants.{Because, OutOfMemory}
+use Rattle.qrev_debuggee.specs.declared.failure.Cause.TheVariants.{NoAddress, NoCount}
 use Rattle.qrev_requests.specs.Members.{member_in, text_in, IsNumberIn, IsSignedIn}
 
 -- an address that lies so far from another; addresses are counted modulo 2^64
@@ -38,6 +41,10 @@ pub record SaysAddress (json : Option Json) (a : ℕ) : Type 0 where
   pub is_offset : SaysOffset json offset
   pub is_moved : IsMovedBy start offset a
 
+-- it says none: no reference in digits of 64 bits, or an offset that is no whole number
+abbrev pub SaysNoAddress : Option Json → Type 0
+SaysNoAddress json = (a : ℕ) → SaysAddress json a → ⊥
+
 -- at most so many are read at once
 abbrev pub read_limit : ℕ
 read_limit = 65536
@@ -60,3 +67,8 @@ pub record ShowsBytes (m : Live) (json : Option Json) (old new : Written) : Type
   pub is_count : IsNumberIn (codes "count") json (Some count)
   pub are_read : AreRead m address (min count read_limit) bytes
   pub added : Adds old new (memory_members address count bytes)
+
+-- why none are read: memory ran out, or the request says no address, or not how many
+abbrev pub HasNoBytes : Option Json → Failure → Type 0
+HasNoBytes json why = (why ≡ OutOfMemory)
+    ⊎ (((why ≡ Because NoAddress) × SaysNoAddress json) ⊎ ((why ≡ Because NoCount) × IsNumberIn (codes "count") json None))

@@ -1,5 +1,5 @@
 -- What a request asks to see of a session, by its JSON, and what it is shown.
-use Rattle.std.specs.Prelude.{◌≡◌, ◌⊎◌, ℕ, zero, suc, ◌-◌, ◌^◌, ◌+◌, ◌<◌, ◌==◌, cond, false, List, length, Option, None, Some, codes, flat_map, option_map, slice_get, unwrap_or}
+use Rattle.std.specs.Prelude.{◌≡◌, ◌⊎◌, ℕ, zero, suc, ◌-◌, ◌^◌, ◌+◌, ◌<◌, ◌==◌, cond, false, List, [], length, Option, None, Some, codes, flat_map, option_map, slice_get, unwrap_or}
 use Rattle.json.specs.Json.{Json}
 use Rattle.json.specs.Written.{Written}
 use Rattle.json.specs.Token.{Token}
@@ -9,7 +9,7 @@ use Rattle.qil_semantics.specs.Timeline.{position, oldest}
 use Rattle.qil_frames.specs.Frames.{SlotFrame}
 use Rattle.qil_render.specs.Shown.{temps_of_frame}
 use Rattle.qrev_protocol.specs.Outgoing.{Adds}
-use Rattle.qrev_requests.specs.Members.{member_in, flag_in, IsNumberIn}
+use Rattle.qrev_requests.specs.Members.{member_in, text_in, flag_in, IsNumberIn}
 use Rattle.qrev_views.specs.Pages.{page_of}
 use Rattle.qrev_views.specs.Scopes.{scopes_tokens}
 use Rattle.qrev_views.specs.Variables.{ShowsData, ShowsEach, ShowsTemps, fixed_tokens, machine_rows}
@@ -25,6 +25,10 @@ use Rattle.qrev_inspection.specs.Shown.{variables_member}
 -- a number that it says under a name, or what stands for none
 abbrev pub Says : List ℕ → Option Json → ℕ → ℕ → Type 0
 Says name json otherwise n = (said : Option ℕ) × IsNumberIn name json said × (n ≡ unwrap_or said otherwise)
+
+-- a text that it says under a name, or the empty one
+abbrev pub said_in : List ℕ → Option Json → List ℕ
+said_in name json = unwrap_or (text_in name json) []
 
 -- its page: from an item on, and so many, where none and 0 stand for all
 pub record AsksPage (json : Option Json) (start count : List ℕ) (page : Page) : Type 0 where

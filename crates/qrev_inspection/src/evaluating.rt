@@ -1,6 +1,10 @@
 //! `evaluate`: the value of an expression, and in the console lines of commands.
 
-use crate::looking::showing_said;
+ghost use Rattle.std.specs.Prelude.{◌≡◌, true, codes};
+ghost use Rattle.qrev_requests.specs.Members.{json_of};
+ghost use Rattle.qrev_inspection.specs.Requested.{said_in};
+
+use crate::looking::{showing_said, text_said};
 use crate::results::{address_in, cause_of, letter_of, put_reference, put_result, put_type};
 use qil_commands::{Command, read_command};
 use qil_machine::Code;
@@ -145,17 +149,20 @@ fn is_command(text: &str) -> bool {
     matches!(read_command(text.as_bytes()), Ok(Some(_)))
 }
 
-/// What is made of a text that is no expression: in the console it is lines of commands, and as a watch it may be one.
-fn answer_lines_of<'c, A: Allocator + Copy + 'c, L: HasMachine<A, Code<'c, A>>>(
+/// Whether a text isn't answered as commands: in the console each one is, and as a watch one that is a command.
+fn is_unanswered(context: &str, text: &str) -> bool
+    ensures { (context.now ≡ codes "repl" → ⊥) → (context.now ≡ codes "watch" → ⊥) → result ≡ true }
+{
+    context != "repl" && (context != "watch" || !is_command(text))
+}
+
+/// Answers lines of commands, unless one ends the script, or is a watch that would move again and again.
+fn answer_commands<'c, A: Allocator + Copy + 'c, L: HasMachine<A, Code<'c, A>>>(
     debuggee: &mut Debuggee<'c, A, L>,
-    context: &str,
+    is_console: bool,
     text: &str,
     body: Body<A>,
 ) -> Result<(Body<A>, Option<Why>), Failure> {
-    let is_console = context == "repl";
-    if !is_console && (context != "watch" || !is_command(text)) {
-        return Err(Failure::Because(Cause::NoSuchName));
-    }
     if has_quit(text) {
         return Err(Failure::Because(Cause::QuitInConsole));
     }
@@ -163,6 +170,21 @@ fn answer_lines_of<'c, A: Allocator + Copy + 'c, L: HasMachine<A, Code<'c, A>>>(
         return Err(Failure::Because(Cause::MovingWatch));
     }
     console(debuggee, text, body)
+}
+
+/// What is made of a text that is no expression: in the console it is lines of commands, and as a watch it may be one.
+fn answer_lines_of<'c, A: Allocator + Copy + 'c, L: HasMachine<A, Code<'c, A>>>(
+    debuggee: &mut Debuggee<'c, A, L>,
+    context: &str,
+    text: &str,
+    body: Body<A>,
+) -> Result<(Body<A>, Option<Why>), Failure>
+    ensures { (context.now ≡ codes "repl" → ⊥) → (context.now ≡ codes "watch" → ⊥) → L.state debuggee.new.recorder.live ≡ L.state debuggee.old.recorder.live }
+{
+    if is_unanswered(context, text) {
+        return Err(Failure::Because(Cause::NoSuchName));
+    }
+    answer_commands(debuggee, context == "repl", text, body)
 }
 
 /// What an editor shows where it leaves a sigil out: a temporary before data or a function.
@@ -195,8 +217,8 @@ fn is_bare(text: &[u8]) -> bool {
 }
 
 /// The expression of a request. Some consoles send `p` before it.
-fn text_said<'q, A: Allocator + Copy>(asked: Arguments<'_, 'q, A>) -> &'q str {
-    let text = asked.text("expression").unwrap_or("");
+fn expression_said<'q, A: Allocator + Copy>(asked: Arguments<'_, 'q, A>) -> &'q str {
+    let text = text_said(asked, "expression");
     text.strip_prefix("p ").unwrap_or(text)
 }
 
@@ -233,9 +255,12 @@ pub fn evaluate<'c, A: Allocator + Copy + 'c, L: HasMachine<A, Code<'c, A>>>(
     debuggee: &mut Debuggee<'c, A, L>,
     asked: Arguments<'_, '_, A>,
     body: Body<A>,
-) -> Result<(Body<A>, Option<Why>), Failure> {
-    let text = text_said(asked);
-    let context = asked.text("context").unwrap_or("");
+) -> Result<(Body<A>, Option<Why>), Failure>
+    ensures { (said_in (codes "context") (json_of asked.entry) ≡ codes "repl" → ⊥) → (said_in (codes "context") (json_of asked.entry) ≡ codes "watch" → ⊥)
+        → L.state debuggee.new.recorder.live ≡ L.state debuggee.old.recorder.live }
+{
+    let text = expression_said(asked);
+    let context = text_said(asked, "context");
     let said = Asked {
         text: text.as_bytes(),
         scene: Scene {

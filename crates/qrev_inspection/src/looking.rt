@@ -16,7 +16,7 @@ ghost use Rattle.qrev_views.specs.Pages.{page_of};
 ghost use Rattle.qrev_views.specs.Scopes.{scopes_tokens};
 ghost use Rattle.qrev_views.specs.Variables.{ShowsTemps, fixed_tokens, machine_rows};
 ghost use Rattle.qrev_inspection.specs.Shown.{ShowsFrame, IsMissing, variables_member};
-ghost use Rattle.qrev_inspection.specs.Requested.{AsksPage, HasNoScopes, HasNoVariables, HasNoneAsked, Lists, ShowsAsked, ShowsDatas, ShowsScopes, ShowsTemporaries, ShowsVariables, frame_numbered, showing_of};
+ghost use Rattle.qrev_inspection.specs.Requested.{AsksPage, HasNoScopes, HasNoVariables, HasNoneAsked, Lists, ShowsAsked, ShowsDatas, ShowsScopes, ShowsTemporaries, ShowsVariables, frame_numbered, said_in, showing_of};
 
 use qil_layout::FuncId;
 use qil_machine::Code;
@@ -38,6 +38,13 @@ pub fn showing_said<A: Allocator + Copy>(client: Client, asked: Arguments<'_, '_
         has_types: client.has_types,
         has_references: client.has_references,
     }
+}
+
+/// The text that a request says under a name, or the empty one.
+pub fn text_said<'q, A: Allocator + Copy>(asked: Arguments<'_, 'q, A>, name: &str) -> &'q str
+    ensures { result.now ≡ said_in name.now (json_of asked.entry) }
+{
+    asked.text(name).unwrap_or("")
 }
 
 /// How many items a count says: 0 stands for all.

@@ -1,6 +1,6 @@
 //! `readMemory` and `writeMemory`: bytes in base64, at an address in decimal.
 
-ghost use Rattle.std.specs.Prelude.{◌≡◌, ◌<◌, ◌≤◌, [], ◌∷◌, ◌++◌, ℕ, List, Some, codes, decimal, min, IfErr, IfOk, IfSome};
+ghost use Rattle.std.specs.Prelude.{◌≡◌, ◌<◌, ◌≤◌, [], ◌∷◌, ◌++◌, ℕ, ℤ, List, Some, codes, decimal, min, IfErr, IfOk, MatchOption};
 ghost use Rattle.base64.specs.GeneralPurpose.{encode_of};
 ghost use Rattle.base64.specs.Engines.{standard};
 ghost use Rattle.json.specs.Token.{key, string, number};
@@ -8,7 +8,7 @@ ghost use Rattle.qil_memory.specs.Live.{live};
 ghost use Rattle.qrev_protocol.specs.Outgoing.{Adds};
 ghost use Rattle.qrev_requests.specs.Members.{json_of, IsNumberIn};
 ghost use Rattle.qrev_debuggee.specs.declared.failure.Failure.TheVariants.{OutOfMemory};
-ghost use Rattle.qrev_inspection.specs.ReadBytes.{AreRead, IsMovedBy, SaysAddress, SaysOffset, ShowsBytes, memory_members, read_limit, unreadable_member};
+ghost use Rattle.qrev_inspection.specs.ReadBytes.{AreRead, HasNoBytes, IsMovedBy, SaysAddress, SaysNoAddress, SaysOffset, ShowsBytes, memory_members, read_limit, unreadable_member};
 
 use base64::engine::general_purpose::STANDARD;
 use qil_fragments::Fragment;
@@ -24,7 +24,7 @@ const READ_LIMIT: u64 = 65_536;
 
 /// The offset that is said: none is 0.
 fn offset_said<A: Allocator + Copy>(asked: Arguments<'_, '_, A>) -> Option<i64>
-    ensures { IfSome result (SaysOffset (json_of asked.entry)) }
+    ensures { MatchOption result ((offset : ℤ) → SaysOffset (json_of asked.entry) offset → ⊥) (SaysOffset (json_of asked.entry)) }
 {
     match asked.get("offset") {
         Some(_) => asked.signed("offset"),
@@ -45,7 +45,7 @@ fn address_at(start: u64, offset: i64) -> u64
 
 /// The address that a reference and an offset say.
 fn address_said<A: Allocator + Copy>(asked: Arguments<'_, '_, A>) -> Option<u64>
-    ensures { IfSome result (SaysAddress (json_of asked.entry)) }
+    ensures { MatchOption result (SaysNoAddress (json_of asked.entry)) (SaysAddress (json_of asked.entry)) }
 {
     let text = asked.text("memoryReference")?;
     let Ok(start) = text.parse::<u64>() else {
@@ -171,7 +171,8 @@ fn put_memory<'c, A: Allocator + Copy + 'c, M: Readers<A, Code<'c, A>>>(
     count: u64,
     body: Body<A>,
 ) -> Result<Body<A>, Failure>
-    ensures { IfOk result (λ o. (bytes : List ℕ) × AreRead (live (M.whole machine.now).memory) start (min count read_limit) bytes × Adds body.out o.out (memory_members start count bytes)) }
+    ensures shown { IfOk result (λ o. (bytes : List ℕ) × AreRead (live (M.whole machine.now).memory) start (min count read_limit) bytes × Adds body.out o.out (memory_members start count bytes)) }
+    ensures fails { IfErr result (λ why. why ≡ OutOfMemory) }
 {
     let bytes = live_bytes(alloc, machine, start, count.min(READ_LIMIT))?;
     let body = put_read(alloc, body, start, count, bytes.as_slice())?;
@@ -180,7 +181,8 @@ fn put_memory<'c, A: Allocator + Copy + 'c, M: Readers<A, Code<'c, A>>>(
 
 /// The address from which on bytes are asked for, and how many.
 fn span_said<A: Allocator + Copy>(asked: Arguments<'_, '_, A>) -> Result<(u64, u64), Failure>
-    ensures { IfOk result (λ span. SaysAddress (json_of asked.entry) span.0 × IsNumberIn (codes "count") (json_of asked.entry) (Some span.1)) }
+    ensures said { IfOk result (λ span. SaysAddress (json_of asked.entry) span.0 × IsNumberIn (codes "count") (json_of asked.entry) (Some span.1)) }
+    ensures fails { IfErr result (HasNoBytes (json_of asked.entry)) }
 {
     let Some(start) = address_said(asked) else {
         return Err(Failure::Because(Cause::NoAddress));
@@ -197,7 +199,8 @@ pub fn read_memory<'c, A: Allocator + Copy + 'c, L: HasMachine<A, Code<'c, A>>>(
     asked: Arguments<'_, '_, A>,
     body: Body<A>,
 ) -> Result<Body<A>, Failure>
-    ensures { IfOk result (λ o. ShowsBytes (L.state debuggee.now.recorder.live).timeline.now.memory (json_of asked.entry) body.out o.out) }
+    ensures shown { IfOk result (λ o. ShowsBytes (L.state debuggee.now.recorder.live).timeline.now.memory (json_of asked.entry) body.out o.out) }
+    ensures fails { IfErr result (HasNoBytes (json_of asked.entry)) }
 {
     let span = span_said(asked)?;
     let machine = debuggee.machine();

@@ -1,6 +1,6 @@
 -- How a conversation goes on: by a response, and by events.
 use Rattle.std.proofs.Common.{◌≡◌, ℕ, suc, ◌+◌, List, [], ◌∷◌, ◌++◌, length, length-append, flat_map, refl, sym, ap, ◌∙◌, append_assoc, arith, subst, Bool, false}
-use Rattle.std.specs.Prelude.{Result, Ok, Err, IsErrAnd, codes, decimal}
+use Rattle.std.specs.Prelude.{Result, Ok, Err, IsErrAnd, OnOk, codes, decimal}
 use Rattle.std.proofs.Common.{inl, inr}
 use Rattle.std.specs.List.{AllByRecursion}
 use Rattle.std.proofs.lemmas.List.{append-nil}
@@ -13,6 +13,7 @@ use Rattle.qil_streams.specs.Device.{IsPrefixOf}
 use Rattle.qil_streams.proofs.DeviceLemmas.{Appends-nil, Appends-append}
 use Rattle.qrev_protocol.specs.Frame.{framed}
 use Rattle.json.specs.Written.{Written}
+use Rattle.qrev_protocol.specs.Open.{IsJson}
 use Rattle.qrev_protocol.specs.Outgoing.{Adds, response_head, event_head}
 use Rattle.qrev_protocol.specs.declared.outgoing.Outcome.TheVariants.{Done}
 use Rattle.qrev_notices.specs.declared.trouble.Trouble.{Trouble}
@@ -43,15 +44,25 @@ numbered_on : (n : ℕ) (texts : List (List ℕ)) (text : List ℕ) → AreNumbe
 numbered_on n [] text all one = (subst (λ (k : ℕ). IsNumbered k text) (omega arith) one, tt)
 numbered_on n (t ∷ ts) text all one = (all.0, numbered_on (suc n) ts text all.1 (subst (λ (k : ℕ). IsNumbered k text) (omega arith) one))
 
+json_more : (texts : List (List ℕ)) (text : List ℕ) → AllByRecursion IsJson texts → IsJson text → AllByRecursion IsJson (texts ++ text ∷ [])
+json_more [] text all one = (one, tt)
+json_more (t ∷ ts) text all one = (all.0, json_more ts text all.1 one)
+
+-- whatever a call gives
+pub on_ok : {T E : Type 0} → (result : Result T E) (P : Type 0) → P → OnOk result P
+on_ok (Ok x) P p = p
+on_ok (Err e) P p = tt
+
 -- one message more
-pub says_more : (start old now : Spoken) (texts : List (List ℕ)) (text : List ℕ) → Says start old texts → IsNumbered (suc old.sent) text
+pub says_more : (start old now : Spoken) (texts : List (List ℕ)) (text : List ℕ) → Says start old texts → IsNumbered (suc old.sent) text → IsJson text
     → Appends old.contents now.contents (framed text) → now.sent ≡ suc old.sent → Says start now (texts ++ text ∷ [])
-says_more start old now texts text said one written counted = record {
+says_more start old now texts text said one is_json written counted = record {
   written = subst (λ (v : List ℕ). Appends start.contents now.contents v)
       (ap (λ (v : List ℕ). flat_map framed texts ++ v) (sym (append-nil (framed text))) ∙ sym (flat_map-append framed texts (text ∷ [])))
       (Appends-append start.contents old.contents now.contents (flat_map framed texts) (framed text) said.written written);
   counted = omega (arith, counted, said.counted, length-append texts (text ∷ []));
   numbered = numbered_on (suc start.sent) texts text said.numbered (subst (λ (k : ℕ). IsNumbered k text) (omega (arith, said.counted)) one);
+  json = json_more texts text said.json is_json;
 }
 
 -- a part of one message more
@@ -76,7 +87,7 @@ pub replied_whole : (start now : Spoken) (asked : List Asked) → HasReplied sta
 replied_whole start now asked h = (h.0, h.1, says_whole start now h.0 h.2)
 
 pub says_nothing : (start : Spoken) → Says start start []
-says_nothing start = record { written = Appends-nil start.contents; counted = omega arith; numbered = tt }
+says_nothing start = record { written = Appends-nil start.contents; counted = omega arith; numbered = tt; json = tt }
 
 -- replies to one request more
 replies_more : (asked : List Asked) (a : Asked) (texts own : List (List ℕ)) → AreReplies asked texts → AreReply a own → AreReplies (asked ++ a ∷ []) (texts ++ own)
@@ -98,18 +109,18 @@ event_more a own text r e =
     all_more (x ∷ xs) text all e = (all.0, all_more xs text all.1 e)
 
 -- a response was sent
-pub responds : {T : Type 0} → (result : Result T Trouble) (a : Asked) (text : List ℕ) (old now : Spoken) → IsResponse a text → IsNumbered (suc old.sent) text → Sends result text old now → Responds result a old now
-responds (Ok x) a text old now is n sent = λ start before h. (h.0, text ∷ [], h.1, (text, [], is, tt, refl), says_more start old now h.0 text h.2 n sent.0 sent.1)
-responds (Err OutOfMemory) a text old now is n same = λ start before h. inl (subst (λ (s : Spoken). HasReplied start before s) (sym same) h)
-responds (Err Device) a text old now is n sent = λ start before h.
+pub responds : {T : Type 0} → (result : Result T Trouble) (a : Asked) (text : List ℕ) (old now : Spoken) → IsResponse a text → IsNumbered (suc old.sent) text → OnOk result (IsJson text) → Sends result text old now → Responds result a old now
+responds (Ok x) a text old now is n json sent = λ start before h. (h.0, text ∷ [], h.1, (text, [], is, tt, refl), says_more start old now h.0 text h.2 n json sent.0 sent.1)
+responds (Err OutOfMemory) a text old now is n json same = λ start before h. inl (subst (λ (s : Spoken). HasReplied start before s) (sym same) h)
+responds (Err Device) a text old now is n json sent = λ start before h.
     (h.0 ++ text ∷ [], replies_more before a h.0 (text ∷ []) h.1 (text, [], is, tt, refl), says_part start old now h.0 text sent.0 h.2 n sent.1 sent.2)
 
 -- an event was sent
-pub tells : {T : Type 0} → (result : Result T Trouble) (text : List ℕ) (old now : Spoken) → IsEvent text → IsNumbered (suc old.sent) text → Sends result text old now → Tells result old now
-tells (Ok x) text old now is n sent = λ start before a h.
-    (h.0, h.1 ++ text ∷ [], h.2, event_more a h.1 text h.3 is, subst (Says start now) (append_assoc h.0 h.1 (text ∷ [])) (says_more start old now (h.0 ++ h.1) text h.4 n sent.0 sent.1))
-tells (Err OutOfMemory) text old now is n same = λ start before a h. subst (λ (s : Spoken). HasResponded start before a s) (sym same) h
-tells (Err Device) text old now is n sent = λ start before a h. (
+pub tells : {T : Type 0} → (result : Result T Trouble) (text : List ℕ) (old now : Spoken) → IsEvent text → IsNumbered (suc old.sent) text → OnOk result (IsJson text) → Sends result text old now → Tells result old now
+tells (Ok x) text old now is n json sent = λ start before a h.
+    (h.0, h.1 ++ text ∷ [], h.2, event_more a h.1 text h.3 is, subst (Says start now) (append_assoc h.0 h.1 (text ∷ [])) (says_more start old now (h.0 ++ h.1) text h.4 n json sent.0 sent.1))
+tells (Err OutOfMemory) text old now is n json same = λ start before a h. subst (λ (s : Spoken). HasResponded start before a s) (sym same) h
+tells (Err Device) text old now is n json sent = λ start before a h. (
   h.0 ++ (h.1 ++ text ∷ []),
   replies_more before a h.0 (h.1 ++ text ∷ []) h.2 (event_more a h.1 text h.3 is),
   subst (SaysPart start now) (append_assoc h.0 h.1 (text ∷ [])) (says_part start old now (h.0 ++ h.1) text sent.0 h.4 n sent.1 sent.2),
@@ -136,7 +147,7 @@ sends_exit T result trouble text old now exit sent =
 pub silent : (T : Type 0) (trouble : Trouble) (a : Asked) (s : Spoken) → Responds {T = T} (Err trouble) a s s
 silent T trouble a s =
     let head : List Token = response_head a.seq a.command Done in
-    responds {T = T} (Err trouble) a (message_text (suc s.sent) head) s s (Done, begins (suc s.sent) head [] head (sym (append-nil head))) (head, refl)
+    responds {T = T} (Err trouble) a (message_text (suc s.sent) head) s s (Done, begins (suc s.sent) head [] head (sym (append-nil head))) (head, refl) tt
     (sends_nothing T trouble (message_text (suc s.sent) head) s)
 
 pub mute : (T : Type 0) (trouble : Trouble) (s : Spoken) → Tells {T = T} (Err trouble) s s

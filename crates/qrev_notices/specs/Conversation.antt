@@ -6,6 +6,7 @@ use Rattle.qil_streams.specs.Device.{IsPrefixOf}
 use Rattle.json.specs.Token.{Token, end_object, key, number}
 use Rattle.json.specs.Print.{print}
 use Rattle.qrev_protocol.specs.Frame.{framed}
+use Rattle.qrev_protocol.specs.Open.{IsJson}
 use Rattle.qrev_protocol.specs.Outgoing.{response_head, event_head}
 use Rattle.qrev_protocol.specs.declared.outgoing.Outcome.{Outcome}
 use Rattle.qrev_protocol.specs.declared.request.Request.{Request}
@@ -62,11 +63,12 @@ pub record Spoken : Type 0 where
 abbrev pub spoken : {A W : Type 0} → (W → Option (List ℕ)) → Port A W → Spoken
 spoken contents port = record { contents = contents port.sink; sent = port.sent }
 
--- these messages were written, each in a frame, and numbered on
+-- these messages were written, each in a frame; they are numbered on, and each is JSON
 pub record Says (start now : Spoken) (texts : List (List ℕ)) : Type 0 where
   pub written : Appends start.contents now.contents (flat_map framed texts)
   pub counted : now.sent ≡ start.sent + length texts
   pub numbered : AreNumbered (suc start.sent) texts
+  pub json : AllByRecursion IsJson texts
 
 -- a device failed: of these messages a prefix was written
 pub record SaysPart (start now : Spoken) (texts : List (List ℕ)) : Type 0 where

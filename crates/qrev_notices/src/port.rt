@@ -1,8 +1,9 @@
 //! Messages that go out: numbered from 1, each in a frame, which is written by one call.
 
-ghost use Rattle.std.specs.Prelude.{◌≡◌, ℕ, ◌+◌, ◌-◌, ◌^◌, ◌<◌, ◌++◌, List, suc, IfOk, Err};
+ghost use Rattle.std.specs.Prelude.{◌≡◌, ℕ, ◌+◌, ◌-◌, ◌^◌, ◌<◌, ◌++◌, List, suc, IfOk, OnOk, Err};
 ghost use Rattle.json.specs.Print.{print};
 ghost use Rattle.qrev_protocol.specs.Frame.{framed};
+ghost use Rattle.qrev_protocol.specs.Open.{IsJson};
 ghost use Rattle.qrev_protocol.specs.Outgoing.{response_head};
 ghost use Rattle.qrev_protocol.specs.declared.outgoing.Outcome.TheVariants.{Done};
 ghost use Rattle.qrev_notices.specs.declared.trouble.Trouble.TheVariants.{OutOfMemory};
@@ -38,7 +39,8 @@ fn response_start<A: Allocator>(alloc: A, request: &Request<'_>) -> Result<Vec<u
 
 /// The text of the message of a number with this body, which has to begin so.
 fn text_after<A: Allocator>(start: &[u8], number: u64, body: Body<A>) -> Result<Vec<u8, A>, Trouble>
-    ensures { IfOk result (λ text. (more : List ℕ) × IsNumbered number text.items × (text.items ≡ start.now ++ more)) }
+    ensures text { IfOk result (λ text. (more : List ℕ) × IsNumbered number text.items × (text.items ≡ start.now ++ more)) }
+    ensures json { IfOk result (λ text. IsJson text.items) }
 {
     let text = body.end()?.into_text(number)?;
     if !text.as_slice().starts_with(start) {
@@ -103,7 +105,8 @@ impl<A: Allocator + Copy, W: Sink> Port<A, W> {
 
     /// Ends a message, gives it the next number, and sends it.
     fn send(&mut self, message: Object<A, Whole>) -> Result<(), Trouble>
-        ensures { Sends result (message_text (suc self.old.sent) message.out.tokens) (spoken W.contents self.old) (spoken W.contents self.new) }
+        ensures sent { Sends result (message_text (suc self.old.sent) message.out.tokens) (spoken W.contents self.old) (spoken W.contents self.new) }
+        ensures json { OnOk result (IsJson (message_text (suc self.old.sent) message.out.tokens)) }
     {
         let number = self.next()?;
         let text = message.into_text(number)?;

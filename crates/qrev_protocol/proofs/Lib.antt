@@ -7,4 +7,5 @@ pub mod Lines
 pub mod Lost
 pub mod Messages
 pub mod Numbers
+pub mod Open
 pub mod Names

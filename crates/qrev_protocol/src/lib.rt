@@ -12,4 +12,4 @@ mod values;
 pub use incoming::{BODY_LIMIT, Came, HEADER_LIMIT, Incoming, ReadError};
 pub use outgoing::{Outcome, event, response};
 pub use request::{Request, flag_of, number_of, request_of, signed_of, text_of};
-pub use values::{Array, InArray, InObject, Object, Whole};
+pub use values::{Array, InArray, InObject, Object, Surrounding, Whole};

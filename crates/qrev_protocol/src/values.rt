@@ -3,12 +3,18 @@
 
 ghost use Rattle.std.specs.Prelude.{◌≡◌, ℕ, List, [], ◌∷◌, ◌++◌, codes, decimal, IfOk};
 ghost use Rattle.std.specs.Fmt.{signed_decimal};
-ghost use Rattle.json.specs.Token.{begin_object, end_object, begin_array, end_array, key, string, number, boolean, null};
+ghost use Rattle.json.specs.Token.{Token, begin_object, end_object, begin_array, end_array, key, string, number, boolean, null};
 ghost use Rattle.json.specs.Print.{print};
+ghost use Rattle.qrev_protocol.specs.Open.{IsJson, IsOpenObject, IsOpenArray, LeadsToWhole, LeadsToMember};
 ghost use Rattle.qrev_protocol.specs.Outgoing.{Adds};
 
 use json::Writer;
 use std::alloc::{AllocError, Allocator};
+
+/// What a value stands in, by the tokens that may come before it.
+pub trait Surrounding: Drop {
+    ghost leads: { List Token → Type 0 };
+}
 
 /// What stands in no other value: a message.
 #[derive(Clone, Copy)]
@@ -26,20 +32,34 @@ pub struct InArray<U> {
     up: U,
 }
 
+impl Surrounding for Whole {
+    ghost leads = { LeadsToWhole };
+}
+
+impl<U: Surrounding> Surrounding for InObject<U> {
+    ghost leads = { LeadsToMember U.leads };
+}
+
+impl<U: Surrounding> Surrounding for InArray<U> {
+    ghost leads = { IsOpenArray U.leads };
+}
+
 /// An object that is being written.
 #[derive(Drop)]
-pub struct Object<A: Allocator, U> {
+pub struct Object<A: Allocator, U: Surrounding> {
     pub out: Writer<A>,
     up: U,
     ghost alone: { out.before ≡ [] },
+    ghost begun: { IsOpenObject U.leads out.tokens },
 }
 
 /// An array that is being written.
 #[derive(Drop)]
-pub struct Array<A: Allocator, U> {
+pub struct Array<A: Allocator, U: Surrounding> {
     pub out: Writer<A>,
     up: U,
     ghost alone: { out.before ≡ [] },
+    ghost begun: { IsOpenArray U.leads out.tokens },
 }
 
 /// Begins an object that stands in no other value.
@@ -52,7 +72,7 @@ pub fn begin_whole<A: Allocator>(alloc: A) -> Result<Object<A, Whole>, AllocErro
 }
 
 /// Each call adds a member. It fails only where memory runs out, and then the value is gone, for it can't be ended any more.
-impl<A: Allocator, U: Drop> Object<A, U> {
+impl<A: Allocator, U: Surrounding> Object<A, U> {
     pub fn number(self, name: &str, value: u64) -> Result<Self, AllocError>
         ensures { IfOk result (λ o. Adds self.out o.out (key name.now ∷ number (decimal value) ∷ [])) }
     {
@@ -125,7 +145,7 @@ impl<A: Allocator, U: Drop> Object<A, U> {
     }
 }
 
-impl<A: Allocator, U: Drop> Object<A, InObject<U>> {
+impl<A: Allocator, U: Surrounding> Object<A, InObject<U>> {
     /// Ends an object that is a member, and goes on with the object that it is a member of.
     pub fn end(self) -> Result<Object<A, U>, AllocError>
         ensures { IfOk result (λ o. Adds self.out o.out (end_object ∷ [])) }
@@ -136,7 +156,7 @@ impl<A: Allocator, U: Drop> Object<A, InObject<U>> {
     }
 }
 
-impl<A: Allocator, U: Drop> Object<A, InArray<U>> {
+impl<A: Allocator, U: Surrounding> Object<A, InArray<U>> {
     /// Ends an object that is an item, and goes on with the array that it stands in.
     pub fn end_item(self) -> Result<Array<A, U>, AllocError>
         ensures { IfOk result (λ o. Adds self.out o.out (end_object ∷ [])) }
@@ -148,7 +168,7 @@ impl<A: Allocator, U: Drop> Object<A, InArray<U>> {
 }
 
 /// Each call adds an item. It fails as with an object.
-impl<A: Allocator, U: Drop> Array<A, U> {
+impl<A: Allocator, U: Surrounding> Array<A, U> {
     /// Begins an item that is an object.
     pub fn object(self) -> Result<Object<A, InArray<U>>, AllocError>
         ensures { IfOk result (λ o. Adds self.out o.out (begin_object ∷ [])) }
@@ -178,7 +198,7 @@ impl<A: Allocator, U: Drop> Array<A, U> {
     }
 }
 
-impl<A: Allocator, U: Drop> Array<A, InObject<U>> {
+impl<A: Allocator, U: Surrounding> Array<A, InObject<U>> {
     /// Ends an array that is a member.
     pub fn end(self) -> Result<Object<A, U>, AllocError>
         ensures { IfOk result (λ o. Adds self.out o.out (end_array ∷ [])) }
@@ -192,7 +212,8 @@ impl<A: Allocator, U: Drop> Array<A, InObject<U>> {
 impl<A: Allocator> Object<A, Whole> {
     /// Ends a message, with its number as its last member, and gives its text.
     pub fn into_text(self, seq: u64) -> Result<Vec<u8, A>, AllocError>
-        ensures { IfOk result (λ text. text.items ≡ print (self.out.tokens ++ key (codes "seq") ∷ number (decimal seq) ∷ end_object ∷ [])) }
+        ensures text { IfOk result (λ text. text.items ≡ print (self.out.tokens ++ key (codes "seq") ∷ number (decimal seq) ∷ end_object ∷ [])) }
+        ensures json { IfOk result (λ text. IsJson text.items) }
     {
         let Object { mut out, .. } = self.number("seq", seq)?;
         out.end_object()?;

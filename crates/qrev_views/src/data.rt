@@ -21,7 +21,7 @@ use qil_fragments::Fragment;
 use qil_render::{Readers, code_of};
 use qil_tree::{Class, Data, Field, Item, Program, Width};
 use qrev_map::{FloatClass, Names};
-use qrev_protocol::{Array, InArray, Object};
+use qrev_protocol::{Array, InArray, Object, Surrounding};
 use std::alloc::{AllocError, Allocator};
 
 /// The data object of a name, which is without its sigil.
@@ -188,7 +188,7 @@ fn data_parts<A: Allocator>(data: &Data<'_, A>, index: usize) -> u64 {
 }
 
 /// Begins a data object with its name.
-fn begin_data<A: Allocator + Copy, U: Drop>(
+fn begin_data<A: Allocator + Copy, U: Surrounding>(
     alloc: A,
     list: Array<A, U>,
     name: &[u8],
@@ -203,7 +203,7 @@ fn begin_data<A: Allocator + Copy, U: Drop>(
 }
 
 /// Adds the expression of what a data object begins with.
-fn add_data_expression<'x, A: Allocator + Copy, U: Drop>(
+fn add_data_expression<'x, A: Allocator + Copy, U: Surrounding>(
     alloc: A,
     variable: Object<A, InArray<U>>,
     letter: &'x str,
@@ -217,7 +217,7 @@ fn add_data_expression<'x, A: Allocator + Copy, U: Drop>(
 }
 
 /// Adds the data object of a number.
-fn put_object<'c, A: Allocator + Copy + 'c, M: Readers<A, Code<'c, A>>, U: Drop>(
+fn put_object<'c, A: Allocator + Copy + 'c, M: Readers<A, Code<'c, A>>, U: Surrounding>(
     alloc: A,
     list: Array<A, U>,
     machine: &M,
@@ -246,7 +246,7 @@ fn put_object<'c, A: Allocator + Copy + 'c, M: Readers<A, Code<'c, A>>, U: Drop>
 }
 
 /// Adds the data objects of a page, in the order of the text.
-pub fn put_data<'c, A: Allocator + Copy + 'c, M: Readers<A, Code<'c, A>>, U: Drop>(
+pub fn put_data<'c, A: Allocator + Copy + 'c, M: Readers<A, Code<'c, A>>, U: Surrounding>(
     alloc: A,
     list: Array<A, U>,
     machine: &M,

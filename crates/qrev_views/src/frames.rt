@@ -18,7 +18,7 @@ use qil_history::FrameView;
 use qil_lines::{Place, line_of};
 use qil_render::{Readers, code_of, func_name, label_name};
 use qil_tree::Program;
-use qrev_protocol::{Array, InArray, Object};
+use qrev_protocol::{Array, InArray, Object, Surrounding};
 use std::alloc::{AllocError, Allocator};
 
 /// The numbers that an editor gives the first line and the first column: 1 or 0.
@@ -58,7 +58,7 @@ pub struct Shown<'p> {
 }
 
 /// Adds the source: the file of the program.
-pub fn put_source<A: Allocator, U: Drop>(
+pub fn put_source<A: Allocator, U: Surrounding>(
     body: Object<A, U>,
     path: &str,
 ) -> Result<Object<A, U>, AllocError>
@@ -138,7 +138,7 @@ fn frame_name<A: Allocator + Copy>(
 }
 
 /// Adds a line of a source.
-fn put_source_line<A: Allocator, U: Drop>(
+fn put_source_line<A: Allocator, U: Surrounding>(
     item: Object<A, U>,
     path: &str,
     line: u64,
@@ -164,7 +164,7 @@ fn source_line<A: Allocator + Copy>(
 }
 
 /// Adds where a line of the text is shown: in the source that it came from, if it came from one.
-fn put_line<A: Allocator + Copy, U: Drop>(
+fn put_line<A: Allocator + Copy, U: Surrounding>(
     alloc: A,
     item: Object<A, U>,
     shown: Shown<'_>,
@@ -190,7 +190,7 @@ fn put_line<A: Allocator + Copy, U: Drop>(
 }
 
 /// Begins an item with a number and a name.
-fn begin_item<A: Allocator, U: Drop>(
+fn begin_item<A: Allocator, U: Surrounding>(
     list: Array<A, U>,
     number: u64,
     name: &str,
@@ -202,7 +202,7 @@ fn begin_item<A: Allocator, U: Drop>(
 }
 
 /// Ends the item of a frame with its column.
-fn end_frame<A: Allocator, U: Drop>(
+fn end_frame<A: Allocator, U: Surrounding>(
     item: Object<A, InArray<U>>,
     column: u64,
 ) -> Result<Array<A, U>, AllocError>
@@ -213,7 +213,7 @@ fn end_frame<A: Allocator, U: Drop>(
 }
 
 /// Adds a frame.
-fn put_frame<'c, A: Allocator + Copy, U: Drop>(
+fn put_frame<'c, A: Allocator + Copy, U: Surrounding>(
     alloc: A,
     list: Array<A, U>,
     code: &Code<'c, A>,
@@ -237,7 +237,9 @@ fn put_frame<'c, A: Allocator + Copy, U: Drop>(
 }
 
 /// Ends the item that stands in place of frames.
-fn end_label<A: Allocator, U: Drop>(item: Object<A, InArray<U>>) -> Result<Array<A, U>, AllocError>
+fn end_label<A: Allocator, U: Surrounding>(
+    item: Object<A, InArray<U>>,
+) -> Result<Array<A, U>, AllocError>
     ensures { IfOk result (λ l. Adds item.out l.out label_end) }
 {
     let list = item
@@ -249,7 +251,7 @@ fn end_label<A: Allocator, U: Drop>(item: Object<A, InArray<U>>) -> Result<Array
 }
 
 /// Adds, where no call is open, one item in place of frames: how the run ended.
-fn put_end<'c, A: Allocator + Copy + 'c, M: Readers<A, Code<'c, A>>, U: Drop>(
+fn put_end<'c, A: Allocator + Copy + 'c, M: Readers<A, Code<'c, A>>, U: Surrounding>(
     alloc: A,
     list: Array<A, U>,
     position: u64,
@@ -278,7 +280,7 @@ fn frame_at<'m, 'c, A: Allocator + Copy + 'c, M: Readers<A, Code<'c, A>>>(
 }
 
 /// Adds the frames of a page, the innermost first.
-fn put_page<'c, A: Allocator + Copy + 'c, M: Readers<A, Code<'c, A>>, U: Drop>(
+fn put_page<'c, A: Allocator + Copy + 'c, M: Readers<A, Code<'c, A>>, U: Surrounding>(
     alloc: A,
     list: Array<A, U>,
     machine: &M,
@@ -311,7 +313,7 @@ fn put_page<'c, A: Allocator + Copy + 'c, M: Readers<A, Code<'c, A>>, U: Drop>(
 
 /// Adds the frames of a page, and how many there are in all, each at the line of the source that its line came from, if it came
 /// from one. Where no call is open there is one item, which tells how the run ended after so many moves.
-pub fn put_frames<'c, A: Allocator + Copy + 'c, M: Readers<A, Code<'c, A>>, U: Drop>(
+pub fn put_frames<'c, A: Allocator + Copy + 'c, M: Readers<A, Code<'c, A>>, U: Surrounding>(
     alloc: A,
     body: Object<A, U>,
     position: u64,

@@ -12,14 +12,14 @@ use crate::texts::{as_text, number_text, place_text};
 use crate::variable::{Page, begin_variable, end_read_only};
 use qil_code::Code;
 use qil_render::Readers;
-use qrev_protocol::Array;
+use qrev_protocol::{Array, Surrounding};
 use std::alloc::{AllocError, Allocator};
 
 /// How many variables a machine has.
 pub const MACHINE_VARIABLES: usize = 4;
 
 /// Adds a variable that can't be set.
-fn put_fixed<A: Allocator, U: Drop>(
+fn put_fixed<A: Allocator, U: Surrounding>(
     list: Array<A, U>,
     name: &str,
     value: &str,
@@ -30,7 +30,7 @@ fn put_fixed<A: Allocator, U: Drop>(
 }
 
 /// Adds one whose value is a number.
-fn put_number<A: Allocator + Copy, U: Drop>(
+fn put_number<A: Allocator + Copy, U: Surrounding>(
     alloc: A,
     list: Array<A, U>,
     name: &str,
@@ -44,7 +44,7 @@ fn put_number<A: Allocator + Copy, U: Drop>(
 }
 
 /// Adds the output.
-fn put_output<A: Allocator + Copy, U: Drop>(
+fn put_output<A: Allocator + Copy, U: Surrounding>(
     alloc: A,
     list: Array<A, U>,
     output: &[u8],
@@ -57,7 +57,7 @@ fn put_output<A: Allocator + Copy, U: Drop>(
 }
 
 /// Adds the place.
-fn put_place<'c, A: Allocator + Copy + 'c, M: Readers<A, Code<'c, A>>, U: Drop>(
+fn put_place<'c, A: Allocator + Copy + 'c, M: Readers<A, Code<'c, A>>, U: Surrounding>(
     alloc: A,
     list: Array<A, U>,
     position: u64,
@@ -73,7 +73,7 @@ fn put_place<'c, A: Allocator + Copy + 'c, M: Readers<A, Code<'c, A>>, U: Drop>(
 
 /// Adds the variable of a number: the place, the position of the oldest state that is kept, the first dead address of the stack,
 /// and the output.
-fn put_nth<'c, A: Allocator + Copy + 'c, M: Readers<A, Code<'c, A>>, U: Drop>(
+fn put_nth<'c, A: Allocator + Copy + 'c, M: Readers<A, Code<'c, A>>, U: Surrounding>(
     alloc: A,
     list: Array<A, U>,
     position: u64,
@@ -95,7 +95,7 @@ fn put_nth<'c, A: Allocator + Copy + 'c, M: Readers<A, Code<'c, A>>, U: Drop>(
 }
 
 /// Adds the variables of a page. `top` is the first dead address of the machine's stack.
-pub fn put_machine<'c, A: Allocator + Copy + 'c, M: Readers<A, Code<'c, A>>, U: Drop>(
+pub fn put_machine<'c, A: Allocator + Copy + 'c, M: Readers<A, Code<'c, A>>, U: Surrounding>(
     alloc: A,
     list: Array<A, U>,
     position: u64,

@@ -15,7 +15,7 @@ use qil_code::Code;
 use qil_fragments::Fragment;
 use qil_render::{Readers, code_of};
 use qil_tree::{Class, Data, Field, Item, Width};
-use qrev_protocol::Array;
+use qrev_protocol::{Array, Surrounding};
 use std::alloc::{AllocError, Allocator};
 
 /// The most parts that one request shows.
@@ -36,7 +36,7 @@ enum Part {
 
 /// A list of parts as it is filled: which of them is next, and where that lies.
 #[derive(Drop)]
-struct Parts<A: Allocator, U> {
+struct Parts<A: Allocator, U: Surrounding> {
     list: Array<A, U>,
     showing: Showing,
     page: Page,
@@ -167,7 +167,7 @@ fn size_of(part: Part) -> u64 {
 }
 
 /// Adds a part.
-fn put_part<'c, A: Allocator + Copy + 'c, M: Readers<A, Code<'c, A>>, U: Drop>(
+fn put_part<'c, A: Allocator + Copy + 'c, M: Readers<A, Code<'c, A>>, U: Surrounding>(
     alloc: A,
     list: Array<A, U>,
     machine: &M,
@@ -184,7 +184,7 @@ fn put_part<'c, A: Allocator + Copy + 'c, M: Readers<A, Code<'c, A>>, U: Drop>(
 }
 
 /// Adds the next part, if the page has it, and goes behind it.
-fn add_part<'c, A: Allocator + Copy + 'c, M: Readers<A, Code<'c, A>>, U: Drop>(
+fn add_part<'c, A: Allocator + Copy + 'c, M: Readers<A, Code<'c, A>>, U: Surrounding>(
     alloc: A,
     parts: Parts<A, U>,
     machine: &M,
@@ -225,7 +225,7 @@ fn width_in(count: u64) -> Width {
 }
 
 /// Adds so many numbers of a width.
-fn put_numbers<'c, A: Allocator + Copy + 'c, M: Readers<A, Code<'c, A>>, U: Drop>(
+fn put_numbers<'c, A: Allocator + Copy + 'c, M: Readers<A, Code<'c, A>>, U: Surrounding>(
     alloc: A,
     parts: Parts<A, U>,
     machine: &M,
@@ -240,7 +240,7 @@ fn put_numbers<'c, A: Allocator + Copy + 'c, M: Readers<A, Code<'c, A>>, U: Drop
 }
 
 /// Adds the items of a field.
-fn put_items<'c, A: Allocator + Copy + 'c, M: Readers<A, Code<'c, A>>, U: Drop>(
+fn put_items<'c, A: Allocator + Copy + 'c, M: Readers<A, Code<'c, A>>, U: Surrounding>(
     alloc: A,
     parts: Parts<A, U>,
     machine: &M,
@@ -259,7 +259,7 @@ fn put_items<'c, A: Allocator + Copy + 'c, M: Readers<A, Code<'c, A>>, U: Drop>(
 }
 
 /// Adds the parts of a data object: its items, of zeros as numbers.
-pub fn put_object_parts<'c, A: Allocator + Copy + 'c, M: Readers<A, Code<'c, A>>, U: Drop>(
+pub fn put_object_parts<'c, A: Allocator + Copy + 'c, M: Readers<A, Code<'c, A>>, U: Surrounding>(
     alloc: A,
     list: Array<A, U>,
     machine: &M,
@@ -308,7 +308,7 @@ fn live_words<'c, A: Allocator + Copy + 'c, M: Readers<A, Code<'c, A>>>(
 }
 
 /// Adds what an address points to: a data object's parts, and of other memory the numbers that are live.
-pub fn put_pointed_parts<'c, A: Allocator + Copy + 'c, M: Readers<A, Code<'c, A>>, U: Drop>(
+pub fn put_pointed_parts<'c, A: Allocator + Copy + 'c, M: Readers<A, Code<'c, A>>, U: Surrounding>(
     alloc: A,
     list: Array<A, U>,
     machine: &M,

@@ -6,7 +6,7 @@ ghost use Rattle.qrev_views.specs.Scopes.{scope_name, scope_variables, hinted_sc
 
 use crate::machine::MACHINE_VARIABLES;
 use qil_history::FrameView;
-use qrev_protocol::{Array, InArray, InObject, Object};
+use qrev_protocol::{Array, InArray, InObject, Object, Surrounding};
 use std::alloc::{AllocError, Allocator};
 
 /// The reference of the scope of the machine. Those of the temporaries of frames are the numbers of the frames.
@@ -16,7 +16,7 @@ pub const MACHINE: u64 = 1 << 30;
 pub const DATA: u64 = (1 << 30) + 1;
 
 /// Ends a scope: by which reference its variables are asked for, and how many there are.
-fn end_scope<A: Allocator, U: Drop>(
+fn end_scope<A: Allocator, U: Surrounding>(
     scope: Object<A, InArray<U>>,
     reference: u64,
     count: usize,
@@ -32,7 +32,7 @@ fn end_scope<A: Allocator, U: Drop>(
 }
 
 /// Adds a scope.
-fn put_scope<A: Allocator, U: Drop>(
+fn put_scope<A: Allocator, U: Surrounding>(
     list: Array<A, U>,
     name: &str,
     reference: u64,
@@ -46,7 +46,7 @@ fn put_scope<A: Allocator, U: Drop>(
 }
 
 /// Adds a scope that an editor shows in its own way: `locals` or `registers`.
-fn put_hinted<A: Allocator, U: Drop>(
+fn put_hinted<A: Allocator, U: Surrounding>(
     list: Array<A, U>,
     name: &str,
     hint: &str,
@@ -64,7 +64,7 @@ fn put_hinted<A: Allocator, U: Drop>(
 }
 
 /// Adds the scope of the temporaries of the frame of a number, if there is one.
-fn put_locals<A: Allocator, U: Drop>(
+fn put_locals<A: Allocator, U: Surrounding>(
     list: Array<A, U>,
     frame: Option<FrameView<'_>>,
     number: u64,
@@ -81,7 +81,7 @@ fn put_locals<A: Allocator, U: Drop>(
 }
 
 /// Adds the scopes: the temporaries of the frame of a number, if there is one, as many data objects, and the machine.
-pub fn put_scopes<A: Allocator, U: Drop>(
+pub fn put_scopes<A: Allocator, U: Surrounding>(
     body: Object<A, U>,
     frame: Option<FrameView<'_>>,
     number: u64,

@@ -22,7 +22,7 @@ use qil_history::FrameView;
 use qil_render::{Readers, code_of, func_name, temp_name};
 use qil_tree::Class;
 use qrev_map::{FloatClass, Names};
-use qrev_protocol::{Array, InArray, Object};
+use qrev_protocol::{Array, InArray, Object, Surrounding};
 use std::alloc::{AllocError, Allocator};
 
 /// The reference of what the first temporary of the first frame points to.
@@ -50,7 +50,7 @@ pub fn letter_of(float: Option<FloatClass>, class: Option<Class>) -> &'static st
 }
 
 /// Adds a reference to the memory at a value, if that is the address of a live byte.
-fn add_live_address<'c, A: Allocator + Copy + 'c, M: Readers<A, Code<'c, A>>, U: Drop>(
+fn add_live_address<'c, A: Allocator + Copy + 'c, M: Readers<A, Code<'c, A>>, U: Surrounding>(
     alloc: A,
     machine: &M,
     variable: Object<A, InArray<U>>,
@@ -96,7 +96,7 @@ fn pointed<'c, A: Allocator + Copy + 'c, M: Readers<A, Code<'c, A>>>(
 }
 
 /// Begins a temporary with the name that is shown.
-fn begin_temp<A: Allocator + Copy, U: Drop>(
+fn begin_temp<A: Allocator + Copy, U: Surrounding>(
     alloc: A,
     list: Array<A, U>,
     name: &[u8],
@@ -111,7 +111,7 @@ fn begin_temp<A: Allocator + Copy, U: Drop>(
 }
 
 /// Adds the expression of a temporary, which is its own name.
-fn add_temp_name<A: Allocator + Copy, U: Drop>(
+fn add_temp_name<A: Allocator + Copy, U: Surrounding>(
     alloc: A,
     variable: Object<A, InArray<U>>,
     name: &[u8],
@@ -124,7 +124,7 @@ fn add_temp_name<A: Allocator + Copy, U: Drop>(
 }
 
 /// Adds a temporary of a frame, by its name in the text that was lowered.
-fn put_temp<'c, A: Allocator + Copy + 'c, M: Readers<A, Code<'c, A>>, U: Drop>(
+fn put_temp<'c, A: Allocator + Copy + 'c, M: Readers<A, Code<'c, A>>, U: Surrounding>(
     alloc: A,
     list: Array<A, U>,
     machine: &M,
@@ -156,7 +156,7 @@ fn put_temp<'c, A: Allocator + Copy + 'c, M: Readers<A, Code<'c, A>>, U: Drop>(
 
 /// Adds the temporaries of a page of the frame of a number, in the order in which the function's text first names them. Those of
 /// the innermost frame can be set.
-pub fn put_temps<'c, A: Allocator + Copy + 'c, M: Readers<A, Code<'c, A>>, U: Drop>(
+pub fn put_temps<'c, A: Allocator + Copy + 'c, M: Readers<A, Code<'c, A>>, U: Surrounding>(
     alloc: A,
     list: Array<A, U>,
     machine: &M,

@@ -6,7 +6,7 @@ ghost use Rattle.qrev_protocol.specs.Outgoing.{Adds};
 ghost use Rattle.qrev_views.specs.Variables.{variable_head, type_member, name_member, read_only, reference};
 
 use crate::texts::number_text;
-use qrev_protocol::{Array, InArray, Object};
+use qrev_protocol::{Array, InArray, Object, Surrounding};
 use std::alloc::{AllocError, Allocator};
 
 /// The form in which an editor asks for variables.
@@ -40,7 +40,7 @@ impl Page {
 }
 
 /// Begins a variable with its name, its value, and the reference by which its parts are asked for: 0 if it has none.
-pub fn begin_variable<A: Allocator, U: Drop>(
+pub fn begin_variable<A: Allocator, U: Surrounding>(
     list: Array<A, U>,
     name: &str,
     value: &str,
@@ -57,7 +57,7 @@ pub fn begin_variable<A: Allocator, U: Drop>(
 }
 
 /// Adds the type, if the editor understands it.
-pub fn add_type<A: Allocator, U: Drop>(
+pub fn add_type<A: Allocator, U: Surrounding>(
     variable: Object<A, InArray<U>>,
     showing: Showing,
     letter: &str,
@@ -72,7 +72,7 @@ pub fn add_type<A: Allocator, U: Drop>(
 }
 
 /// Adds the expression that gives its value.
-pub fn add_expression<A: Allocator, U: Drop>(
+pub fn add_expression<A: Allocator, U: Surrounding>(
     variable: Object<A, InArray<U>>,
     expression: &str,
 ) -> Result<Object<A, InArray<U>>, AllocError>
@@ -83,7 +83,7 @@ pub fn add_expression<A: Allocator, U: Drop>(
 }
 
 /// Ends a variable that can't be set.
-pub fn end_read_only<A: Allocator, U: Drop>(
+pub fn end_read_only<A: Allocator, U: Surrounding>(
     variable: Object<A, InArray<U>>,
 ) -> Result<Array<A, U>, AllocError>
     ensures { IfOk result (λ l. Adds variable.out l.out (read_only ++ end_object ∷ [])) }
@@ -99,7 +99,7 @@ pub fn end_read_only<A: Allocator, U: Drop>(
 }
 
 /// Adds a reference to the memory at an address.
-fn put_reference<A: Allocator + Copy, U: Drop>(
+fn put_reference<A: Allocator + Copy, U: Surrounding>(
     alloc: A,
     variable: Object<A, InArray<U>>,
     address: u64,
@@ -112,7 +112,7 @@ fn put_reference<A: Allocator + Copy, U: Drop>(
 }
 
 /// Adds a reference to the memory at an address, if the editor understands it.
-pub fn add_address<A: Allocator + Copy, U: Drop>(
+pub fn add_address<A: Allocator + Copy, U: Surrounding>(
     alloc: A,
     variable: Object<A, InArray<U>>,
     showing: Showing,
@@ -128,7 +128,7 @@ pub fn add_address<A: Allocator + Copy, U: Drop>(
 }
 
 /// Ends a variable, which can be set or can't.
-pub fn end_variable<A: Allocator, U: Drop>(
+pub fn end_variable<A: Allocator, U: Surrounding>(
     variable: Object<A, InArray<U>>,
     can_be_set: bool,
 ) -> Result<Array<A, U>, AllocError>

@@ -14,4 +14,4 @@ returns g c =
     let head = response_head c.args.request.seq c.args.request.command.now (Failed c.args.why) in
     let is : tokens ≡ head = c.in_ok-message.ensures in
     responds c.send.result (asked_by c.args.request) (message_text (suc old.sent) tokens) old (spoken g.W.Sink.contents c.send.new.self)
-    ((Failed c.args.why), begins (suc old.sent) head [] tokens (is ∙ sym (append-nil head))) (tokens, refl) c.send.ensures
+    ((Failed c.args.why), begins (suc old.sent) head [] tokens (is ∙ sym (append-nil head))) (tokens, refl) c.send.ensures.json c.send.ensures.sent

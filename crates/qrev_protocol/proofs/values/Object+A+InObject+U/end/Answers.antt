@@ -1,0 +1,5 @@
+use Rattle.qrev_protocol.proofs.Open.{object_ended}
+use Rattle.qrev_protocol.proofs.values.Object+A+InObject+U.end.Goals as goal
+
+pub invariant_of-result-clause-begun : goal.invariant_of-result-clause-begun
+invariant_of-result-clause-begun g c = object_ended g.U.Surrounding.leads c.args.self.out.tokens c.end_object.new.self.tokens c.args.self.begun c.in_ok-end_object.ensures.ok

@@ -1,0 +1,10 @@
+use Rattle.json.specs.Token.{key}
+use Rattle.json.specs.Token as token
+use Rattle.json.specs.Json as json
+use Rattle.qrev_protocol.proofs.Open.{member_added, joined}
+use Rattle.qrev_protocol.proofs.values.Object.null.Goals as goal
+
+pub invariant_of-result-clause-begun : goal.invariant_of-result-clause-begun
+invariant_of-result-clause-begun g c =
+    member_added g.U.Surrounding.leads c.args.self.out.tokens c.null.new.self.tokens c.args.name.now (json.null) c.args.self.begun tt
+    (joined c.args.self.out.tokens c.key.new.self.tokens c.null.new.self.tokens (key c.args.name.now) (token.null) c.in_ok-key.ensures.ok c.in_ok-null.ensures.ok)
