@@ -1,4 +1,4 @@
-"""Each allocation of a comparison refused in turn, by a preloaded library: out of memory is an answer."""
+"""Each allocation of a comparison refused in turn, by a preloaded library: no text is loaded, or no session begins."""
 from __future__ import annotations
 
 import pathlib
@@ -12,7 +12,7 @@ from harness.running import quoted
 
 MOST = 20_000  # refused allocations that are tried before a run must meet none
 
-# A program with calls, room on the stack and output: its moves take memory. The other one's second line is another.
+# A program with calls, room on the stack and output. The other one's second line is another.
 GOOD = rb"""data $one = { b "one line of some length, so that its output wants memory", b 0 }
 data $two = { b "two", b 0 }
 function $say(l %text) {
@@ -56,18 +56,10 @@ def fault_of(run: Run, ample: bytes, told: bytes, status: int, kinds: set[str]) 
     if not run.written:
         kinds.add("load")
         return None if not run.script_read else f"{run.script_read} bytes of the script were read"
-    if run.written == told:
-        kinds.add("session")
-        return None if not run.script_read else f"{run.script_read} bytes of the script were read"
-    kinds.add("move")
-    first, *lines = run.written.split(b"\n")
-    most = int(ample.split(b"\n")[0].split()[-1])
-    if not first.startswith(b"memory at event ") or int(first.split()[-1]) > most:
-        return f"{quoted(first)} as the first line, and {most} events are the same"
-    sides = [line for line in lines if line.startswith((b"good: ", b"bad: "))]
-    if len(sides) != 2 or not any(line.endswith(b": memory") for line in sides):
-        return f"{sides} as what comes next"
-    return None
+    if run.written != told:
+        return f"{quoted(run.written)}, which is neither nothing nor the report"
+    kinds.add("session")
+    return None if not run.script_read else f"{run.script_read} bytes of the script were read"
 
 
 def memory_fault(program: str, seconds: float, words: Sequence[str]) -> str | None:
@@ -85,6 +77,6 @@ def memory_fault(program: str, seconds: float, words: Sequence[str]) -> str | No
             if fault:
                 return f"allocation {which}: {fault}"
             if not run.was_refused:
-                lacks = {"load", "session", "move"} - kinds
+                lacks = {"load", "session"} - kinds
                 return f"no run wanted memory for {sorted(lacks)}, only for {sorted(kinds)}" if lacks else None
     return f"more than {MOST} allocations"

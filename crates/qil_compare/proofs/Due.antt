@@ -73,7 +73,7 @@ due_here {A} p f fs func b finds ef eb =
     ∙ ap (λ x. due_at p F func (block_labelled func.blocks x)) label
     ∙ ap (due_at p F func) (finds.block f.func func f.block b ef eb)
 
-func_of_due : {A : Type 0} (p : Program A) (F : meaning.Frame) (func : Func A) (b : Block A) (id : FuncId) (i : ℕ) → id.index ≡ i → func_at p i ≡ Some func → IsFuncOf p (due_in p F func b) id
+pub func_of_due : {A : Type 0} (p : Program A) (F : meaning.Frame) (func : Func A) (b : Block A) (id : FuncId) (i : ℕ) → id.index ≡ i → func_at p i ≡ Some func → IsFuncOf p (due_in p F func b) id
 func_of_due {A} p F func b id i ei ef =
     let at : func_at p id.index ≡ Some func = ap (func_at p) ei ∙ ef in
     record {
@@ -183,15 +183,6 @@ has_block {A} p f fits none =
     none_some (sym none ∙ there)
 
 -- ---- the innermost frame of a machine
-
--- of a frame that stands first
-pub due_first : {A : Type 0} (p q : Program A) (kinds : Kinds) (fs : List SlotFrame) (f : SlotFrame) (id : FuncId) (ahead : Ahead) → q ≡ p → slice_get fs 0 ≡ Some f
-    → ((gs : List SlotFrame) (at : FuncId) → at.index ≡ f.func → IsDue q kinds (due_of q (frames_state q (f ∷ gs))) at ahead) → id.index ≡ f.func → IsDue p kinds (due_of p (frames_state p fs)) id ahead
-due_first p q kinds [] f id ahead eq first due ef = none_some first
-due_first {A} p q kinds (g ∷ gs) f id ahead eq first due ef =
-    let same : g ≡ f = some_same g f first in
-    subst (λ (r : Program A). IsDue r kinds (due_of r (frames_state r (g ∷ gs))) id ahead) eq
-    (subst (λ (h : SlotFrame). IsDue q kinds (due_of q (frames_state q (h ∷ gs))) id ahead) (sym same) (due gs id ef))
 
 -- where there is none the run is over
 over_bare : {X : Type 0} (ns : List Name) (st : Status) (fs : List SlotFrame) → FramesFor st fs → slice_get fs 0 ≡ None → is_final (status_of ns st) ≡ false → X

@@ -209,9 +209,6 @@ found_run {A} p q kinds limit t u v k common rest late founds.Over moves at newl
 found_run p q kinds limit t u v k common rest late founds.Limit moves at newly none runs =
     found_none p q kinds limit t u v k runs.count common rest late founds.Limit moves at none runs.moves runs.ends.0 (λ is. absurd is) (λ n there has. ([], has ∙ sym (append-nil common)))
     (λ same. spent_run p q kinds limit t u v k runs.count common rest moves at newly none runs.moves runs.ends.0 runs.ends.1 runs.ends.2)
-found_run {A} p q kinds limit t u v k common rest late founds.OutOfMemory moves at newly none runs =
-    found_none p q kinds limit t u v k runs.count common rest late founds.OutOfMemory moves at none runs.moves runs.ends.0 (λ is. absurd is)
-    (λ n there has. (has, subst (λ (s : State). is_final s.status ≡ false) (after_at p n t v there) runs.ends.2)) (λ same. absurd cc)
 
 pub found_next : {A : Type 0} (p q : Program A) (kinds : Kinds) (limit : ℕ) (t u v : Timeline) (k : ℕ) (common : List Event) (told late : ℕ) (found : Found) → u ≡ moved p k t → Behind (run_of kinds p q t) k common (untold kinds told u.now)
     → Newly (run_of kinds p q t) k common → IsNext p q kinds limit u v told late found → Found_at (run_of kinds p q t) limit t v common late found
@@ -267,12 +264,8 @@ limited {A} kinds limit p q t u w v n told late answer alike far is =
       };
       good_limit = λ same. inr far;
       bad_limit = λ same. inr far;
-      judged = (not_memory, inl refl);
+      judged = inl refl;
     })
-  where
-    not_memory : OneIs founds.OutOfMemory founds.Limit founds.Limit → ⊥
-    not_memory (inl e) = absurd cc
-    not_memory (inr e) = absurd cc
 
 -- what both found, after n events that are the same
 pub record BothFound {A : Type 0} (kinds : Kinds) (limit : ℕ) (p q : Program A) (t u w v : Timeline) (n told late : ℕ) (good bad : Found) : Type 0 where
@@ -330,10 +323,8 @@ pub alike_more : {A : Type 0} (kinds : Kinds) (limit : ℕ) (p q : Program A) (t
 alike_more kinds limit p q t u w v n told late (founds.Event e) (founds.Event d) found judged = alike_events kinds limit p q t u w v n told late e d found judged.2
 alike_more kinds limit p q t u w v n told late (founds.Event e) founds.Over found judged = absurd judged.1
 alike_more kinds limit p q t u w v n told late (founds.Event e) founds.Limit found judged = absurd judged.1
-alike_more kinds limit p q t u w v n told late (founds.Event e) founds.OutOfMemory found judged = absurd judged.1
 alike_more kinds limit p q t u w v n told late founds.Over bad found judged = absurd judged.0
 alike_more kinds limit p q t u w v n told late founds.Limit bad found judged = absurd judged.0
-alike_more kinds limit p q t u w v n told late founds.OutOfMemory bad found judged = absurd judged.0
 
 -- ---- what code says of histories, of the programs and the kinds that the comparison is of
 

@@ -1,5 +1,7 @@
 -- The lemmas of this crate, and worked rows.
 pub mod Due
+pub mod Staying
+pub mod Stretching
 pub mod Places
 pub mod Happening
 pub mod Calling

@@ -95,13 +95,11 @@ knows : {A : Type 0} (p q : Program A) (kinds : Kinds) (s : State) (n k : ℕ) (
 knows p q kinds s n k common (founds.Event e) count stands = has_at p q kinds s n k common stands.has.0 (event_at p (after p s k) e) count stands.has.1 stands.least
 knows p q kinds s n k common founds.Over count stands = has_few p q kinds s n k common count stands.has.0 stands.has.1
 knows p q kinds s n k common founds.Limit count stands = tt
-knows p q kinds s n k common founds.OutOfMemory count stands = tt
 
 front_of : {A : Type 0} (r : Run A) (k : ℕ) (common : List Event) (found : Found) → Stands r k common found → IsFront r common
 front_of r k common (founds.Event e) stands = record { steps = k; runs = stands.runs; others = event_at r.program (state_after r k) e ∷ stands.has.0; has = stands.has.1 }
 front_of r k common founds.Over stands = record { steps = k; runs = stands.runs; others = []; has = stands.has.0 ∙ sym (append-nil common) }
 front_of r k common founds.Limit stands = record { steps = k; runs = stands.runs; others = stands.has.0; has = stands.has.1 }
-front_of r k common founds.OutOfMemory stands = record { steps = k; runs = stands.runs; others = []; has = stands.has.0 ∙ sym (append-nil common) }
 
 -- ---- a front of both that is longer
 
@@ -120,15 +118,13 @@ front_few r front of n few =
     let most = few of.steps of.runs in
     omega (arith, all, most)
 
-no_longer : {A : Type 0} (r q : Run A) (n k j : ℕ) (good bad : Found) (front : List Event) → Knows r n k good → Knows q n j bad → (OneIs founds.OutOfMemory good bad → ⊥) → (OneIs founds.Limit good bad → ⊥)
+no_longer : {A : Type 0} (r q : Run A) (n k j : ℕ) (good bad : Found) (front : List Event) → Knows r n k good → Knows q n j bad → (OneIs founds.Limit good bad → ⊥)
     → (Agrees r.program q.program (state_after r k) (state_after q j) good bad → ⊥) → IsFront r front → IsFront q front → length front ≤ n
-no_longer r q n k j founds.Limit bad front one other memory limit parts left right = absurd (limit (inl refl))
-no_longer r q n k j founds.OutOfMemory bad front one other memory limit parts left right = absurd (memory (inl refl))
-no_longer r q n k j founds.Over bad front one other memory limit parts left right = front_few r front left n one
-no_longer r q n k j (founds.Event e) founds.Limit front one other memory limit parts left right = absurd (limit (inr refl))
-no_longer r q n k j (founds.Event e) founds.OutOfMemory front one other memory limit parts left right = absurd (memory (inr refl))
-no_longer r q n k j (founds.Event e) founds.Over front one other memory limit parts left right = front_few q front right n other
-no_longer r q n k j (founds.Event e) (founds.Event d) front one other memory limit parts left right = elim (cases_lt n (length front)) [
+no_longer r q n k j founds.Limit bad front one other limit parts left right = absurd (limit (inl refl))
+no_longer r q n k j founds.Over bad front one other limit parts left right = front_few r front left n one
+no_longer r q n k j (founds.Event e) founds.Limit front one other limit parts left right = absurd (limit (inr refl))
+no_longer r q n k j (founds.Event e) founds.Over front one other limit parts left right = front_few q front right n other
+no_longer r q n k j (founds.Event e) (founds.Event d) front one other limit parts left right = elim (cases_lt n (length front)) [
   | inl more ↦ absurd (parts (some_same _ _ (sym (front_at r front left n _ one more) ∙ front_at q front right n _ other more)))
   | inr few ↦ few
 ]
@@ -139,14 +135,14 @@ judged_part : {A : Type 0} (kinds : Kinds) (p q : Program A) (t u w v : Timeline
     → IsJudged p q u.now v.now good bad verdicts.Part → HaveLongest (run_of kinds p q t) (run_of kinds q p w) n
 judged_part {A} kinds p q t u w v n k j good bad eu ev stand judged =
     let parts : Agrees p q (after p t.now k) (after q w.now j) good bad → ⊥ =
-    λ agree. judged.2 (subst (λ (s : State). Agrees p q s v.now good bad) (sym (after_at p k t u eu)) (subst (λ (s : State). Agrees p q (after p t.now k) s good bad) (sym (after_at q j w v ev)) agree)) in
+    λ agree. judged.1 (subst (λ (s : State). Agrees p q s v.now good bad) (sym (after_at p k t u eu)) (subst (λ (s : State). Agrees p q (after p t.now k) s good bad) (sym (after_at q j w v ev)) agree)) in
     record {
       front = stand.common;
       count = stand.count;
       of_good = front_of (run_of kinds p q t) k stand.common good stand.good_side;
       of_bad = front_of (run_of kinds q p w) j stand.common bad stand.bad_side;
       longest = λ other left right. no_longer (run_of kinds p q t) (run_of kinds q p w) n k j good bad other
-          (knows p q kinds t.now n k stand.common good stand.count stand.good_side) (knows q p kinds w.now n j stand.common bad stand.count stand.bad_side) judged.0 judged.1 parts left right;
+          (knows p q kinds t.now n k stand.common good stand.count stand.good_side) (knows q p kinds w.now n j stand.common bad stand.count stand.bad_side) judged.0 parts left right;
     }
 
 all_of : {A : Type 0} (r : Run A) (k : ℕ) (common : List Event) (found : Found) → found ≡ founds.Over → Stands r k common found → AreAll r common

@@ -38,7 +38,6 @@ abbrev pub Has : {A : Type 0} → Run A → ℕ → List Event → Found → Typ
 Has r k common (founds.Event e) = (others : List Event) × (first_events r k ≡ common ++ (event_at r.program (state_after r k) e ∷ others))
 Has r k common founds.Over = (first_events r k ≡ common) × (is_final (state_after r k).status ≡ true)
 Has r k common founds.Limit = (others : List Event) × (first_events r k ≡ common ++ others)
-Has r k common founds.OutOfMemory = (first_events r k ≡ common) × (is_final (state_after r k).status ≡ false)
 
 -- A side stands after k moves, each from a state whose run goes on: the least number after which it has more events than
 -- these; or it has no more.
@@ -90,9 +89,8 @@ NoneIs found good bad = OneIs found good bad → ⊥
 
 abbrev pub IsJudged : {A : Type 0} → Program A → Program A → State → State → Found → Found → Verdict → Type 0
 IsJudged p q s t good bad verdicts.Same = (good ≡ founds.Over) × (bad ≡ founds.Over)
-IsJudged p q s t good bad verdicts.Part = NoneIs founds.OutOfMemory good bad × NoneIs founds.Limit good bad × (Agrees p q s t good bad → ⊥)
-IsJudged p q s t good bad verdicts.Limit = NoneIs founds.OutOfMemory good bad × OneIs founds.Limit good bad
-IsJudged p q s t good bad verdicts.OutOfMemory = OneIs founds.OutOfMemory good bad
+IsJudged p q s t good bad verdicts.Part = NoneIs founds.Limit good bad × (Agrees p q s t good bad → ⊥)
+IsJudged p q s t good bad verdicts.Limit = OneIs founds.Limit good bad
 
 abbrev pub IsEvent : Found → Type 0
 IsEvent (founds.Event e) = Unit {0}

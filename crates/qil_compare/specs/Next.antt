@@ -59,7 +59,6 @@ Ends p other kinds limit s k new told (founds.Event e) =
     (i : ℕ) × (k ≡ i + 1) × AreSilent p other kinds s i × (is_final (after p s i).status ≡ false) × (events_of p other kinds (after p s i) ≡ event_at p new e ∷ untold kinds told new)
 Ends p other kinds limit s k new told founds.Over = AreSilent p other kinds s k × (is_final new.status ≡ true) × (untold kinds told new ≡ [])
 Ends p other kinds limit s k new told founds.Limit = AreSilent p other kinds s k × (k ≡ limit) × (is_final new.status ≡ false) × (untold kinds told new ≡ [])
-Ends p other kinds limit s k new told founds.OutOfMemory = AreSilent p other kinds s k × (k < limit) × (is_final new.status ≡ false) × (untold kinds told new ≡ [])
 
 -- a run from t made k moves to u, no more than the limit, and ended for this
 pub record RunsToEvent {A : Type 0} (p other : Program A) (kinds : Kinds) (limit : ℕ) (t u : Timeline) (told : ℕ) (found : Found) : Type 0 where

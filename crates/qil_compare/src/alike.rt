@@ -14,8 +14,8 @@ use crate::ahead::{image_of, innermost};
 use crate::calls::call_name;
 use crate::seen::func_name;
 use qil_code::Code;
+use qil_history::Readers;
 use qil_layout::{FuncId, Image};
-use qil_machine::Machine;
 use std::alloc::Allocator;
 
 /// Whether a function of a program has a name.
@@ -85,13 +85,13 @@ pub fn has_like<'c, A: Allocator + Copy>(
 
 /// Whether a program defines a function of the name that was called in another one.
 #[inline(always)]
-pub fn has_called<'c, A: Allocator + Copy>(
-    machine: &Machine<'c, A>,
+pub fn has_called<'c, A: Allocator + Copy + 'c, M: Readers<A, Code<'c, A>>>(
+    machine: &M,
     code: &Code<'c, A>,
     alike: u16,
 ) -> bool
-    requires { AreNamedAlike machine.now.program code.now alike }
-    ensures { result ≡ has_func code.now (call_name (state_of machine.now).frames) }
+    requires { AreNamedAlike (M.whole machine.now).program code.now alike }
+    ensures { result ≡ has_func code.now (call_name (state_of (M.whole machine.now)).frames) }
 {
     match innermost(machine) {
         Some(frame) => has_like(image_of(machine), code, frame.func(), alike),
@@ -140,13 +140,13 @@ pub fn same_names<'c, A: Allocator + Copy>(
 
 /// Whether two machines are in calls of functions that have one number and the same name.
 #[inline(always)]
-fn are_alike<'c, A: Allocator + Copy>(
-    left: &Machine<'c, A>,
-    right: &Machine<'c, A>,
+fn are_alike<'c, A: Allocator + Copy + 'c, M: Readers<A, Code<'c, A>>>(
+    left: &M,
+    right: &M,
     alike: u16,
 ) -> bool
-    requires { AreNamedAlike left.now.program right.now.program alike }
-    ensures { IsTrue result → call_name (state_of left.now).frames ≡ call_name (state_of right.now).frames }
+    requires { AreNamedAlike (M.whole left.now).program (M.whole right.now).program alike }
+    ensures { IsTrue result → call_name (state_of (M.whole left.now)).frames ≡ call_name (state_of (M.whole right.now)).frames }
 {
     let Some(frame) = innermost(left) else {
         return false;
@@ -159,24 +159,24 @@ fn are_alike<'c, A: Allocator + Copy>(
 
 /// Whether two machines are in calls of functions of one name, byte by byte.
 #[inline(never)]
-fn are_call_names_same<'c, A: Allocator + Copy>(
-    left: &Machine<'c, A>,
-    right: &Machine<'c, A>,
+fn are_call_names_same<'c, A: Allocator + Copy + 'c, M: Readers<A, Code<'c, A>>>(
+    left: &M,
+    right: &M,
 ) -> bool
-    ensures { IsTrue result ↔ (call_name (state_of left.now).frames ≡ call_name (state_of right.now).frames) }
+    ensures { IsTrue result ↔ (call_name (state_of (M.whole left.now)).frames ≡ call_name (state_of (M.whole right.now)).frames) }
 {
     call_name(left) == call_name(right)
 }
 
 /// Whether two machines are in calls of functions of one name.
 #[inline(always)]
-pub fn same_call_names<'c, A: Allocator + Copy>(
-    left: &Machine<'c, A>,
-    right: &Machine<'c, A>,
+pub fn same_call_names<'c, A: Allocator + Copy + 'c, M: Readers<A, Code<'c, A>>>(
+    left: &M,
+    right: &M,
     alike: u16,
 ) -> bool
-    requires { AreNamedAlike left.now.program right.now.program alike }
-    ensures { IsTrue result ↔ (call_name (state_of left.now).frames ≡ call_name (state_of right.now).frames) }
+    requires { AreNamedAlike (M.whole left.now).program (M.whole right.now).program alike }
+    ensures { IsTrue result ↔ (call_name (state_of (M.whole left.now)).frames ≡ call_name (state_of (M.whole right.now)).frames) }
 {
     if are_alike(left, right, alike) {
         return true;

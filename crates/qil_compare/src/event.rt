@@ -45,6 +45,4 @@ pub enum Found {
     Over,
     /// As many moves were made as may be, without an event.
     Limit,
-    /// There is no memory for the next move.
-    OutOfMemory,
 }

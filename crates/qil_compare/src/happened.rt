@@ -15,8 +15,8 @@ use crate::alike::{has_called, has_like};
 use crate::event::{Event, Kinds, Told};
 use crate::standing::data_place_in;
 use qil_code::Code;
+use qil_history::{Readers, is_final};
 use qil_layout::{DATA_BASE, FuncId, Image};
-use qil_machine::Machine;
 use std::alloc::Allocator;
 
 /// Whether a program defines a data object of a name.
@@ -30,15 +30,18 @@ fn has_data<A: Allocator + Copy>(image: &Image<'_, A>, name: &[u8]) -> bool
 }
 
 /// Whether the run is over.
-pub fn is_over<A: Allocator + Copy>(machine: &Machine<'_, A>) -> bool
-    ensures { result ≡ is_final (state_of machine.now).status }
+pub fn is_over<'c, A: Allocator + Copy + 'c, M: Readers<A, Code<'c, A>>>(machine: &M) -> bool
+    ensures { result ≡ is_final (state_of (M.whole machine.now)).status }
 {
-    machine.is_final()
+    is_final(machine)
 }
 
 /// An event behind which no output is left to report.
-fn told<A: Allocator + Copy>(machine: &Machine<'_, A>, event: Event) -> Option<Told>
-    ensures { (kinds : Kinds) → AreTold machine.now.program kinds (state_of machine.now) (event_at machine.now.program (state_of machine.now) event ∷ []) result }
+fn told<'c, A: Allocator + Copy + 'c, M: Readers<A, Code<'c, A>>>(
+    machine: &M,
+    event: Event,
+) -> Option<Told>
+    ensures { (kinds : Kinds) → AreTold (M.whole machine.now).program kinds (state_of (M.whole machine.now)) (event_at (M.whole machine.now).program (state_of (M.whole machine.now)) event ∷ []) result }
 {
     Some(Told {
         event,
@@ -47,13 +50,13 @@ fn told<A: Allocator + Copy>(machine: &Machine<'_, A>, event: Event) -> Option<T
 }
 
 /// How a run ended, if that is compared.
-fn ended<A: Allocator + Copy>(
-    machine: &Machine<'_, A>,
+fn ended<'c, A: Allocator + Copy + 'c, M: Readers<A, Code<'c, A>>>(
+    machine: &M,
     kinds: Kinds,
     before: Before,
 ) -> Option<Told>
-    ensures { (due : Due) → IsFuncOf machine.now.program due before.func
-        → AreTold machine.now.program kinds (state_of machine.now) (one_if kinds.end (ended (end_of machine.now.program due.returns (state_of machine.now).status))) result }
+    ensures { (due : Due) → IsFuncOf (M.whole machine.now).program due before.func
+        → AreTold (M.whole machine.now).program kinds (state_of (M.whole machine.now)) (one_if kinds.end (ended (end_of (M.whole machine.now).program due.returns (state_of (M.whole machine.now)).status))) result }
 {
     if !kinds.end {
         return None;
@@ -62,14 +65,14 @@ fn ended<A: Allocator + Copy>(
 }
 
 /// A call, if it is one of both programs.
-fn called<'c, A: Allocator + Copy>(
-    machine: &Machine<'c, A>,
+fn called<'c, A: Allocator + Copy + 'c, M: Readers<A, Code<'c, A>>>(
+    machine: &M,
     other: &Code<'c, A>,
     kinds: Kinds,
     alike: u16,
 ) -> Option<Told>
-    requires { AreNamedAlike machine.now.program other.now alike }
-    ensures { AreTold machine.now.program kinds (state_of machine.now) (call_by machine.now.program other.now kinds (state_of machine.now).frames) result }
+    requires { AreNamedAlike (M.whole machine.now).program other.now alike }
+    ensures { AreTold (M.whole machine.now).program kinds (state_of (M.whole machine.now)) (call_by (M.whole machine.now).program other.now kinds (state_of (M.whole machine.now)).frames) result }
 {
     if !kinds.calls {
         return None;
@@ -81,16 +84,16 @@ fn called<'c, A: Allocator + Copy>(
 }
 
 /// A return, if it is one of both programs.
-fn returned<'c, A: Allocator + Copy>(
-    machine: &Machine<'c, A>,
+fn returned<'c, A: Allocator + Copy + 'c, M: Readers<A, Code<'c, A>>>(
+    machine: &M,
     other: &Code<'c, A>,
     kinds: Kinds,
     before: Before,
     alike: u16,
 ) -> Option<Told>
-    requires { AreNamedAlike machine.now.program other.now alike }
-    ensures { (due : Due) → IsFuncOf machine.now.program due before.func → IsAhead kinds due before.ahead
-        → AreTold machine.now.program kinds (state_of machine.now) (return_by machine.now.program other.now kinds due) result }
+    requires { AreNamedAlike (M.whole machine.now).program other.now alike }
+    ensures { (due : Due) → IsFuncOf (M.whole machine.now).program due before.func → IsAhead kinds due before.ahead
+        → AreTold (M.whole machine.now).program kinds (state_of (M.whole machine.now)) (return_by (M.whole machine.now).program other.now kinds due) result }
 {
     if !kinds.calls {
         return None;
@@ -125,14 +128,14 @@ fn range_of(ahead: Ahead) -> Option<(u64, u64)>
 }
 
 /// A write to memory, if it is to data of both programs.
-fn wrote_at<'c, A: Allocator + Copy>(
-    machine: &Machine<'c, A>,
+fn wrote_at<'c, A: Allocator + Copy + 'c, M: Readers<A, Code<'c, A>>>(
+    machine: &M,
     other: &Code<'c, A>,
     start: u64,
     count: u64,
 ) -> Option<Told>
-    ensures { (kinds : Kinds) → AreTold machine.now.program kinds (state_of machine.now)
-        (write_in other.now (state_of machine.now) (record { start = start; count = count }) (data_place machine.now.program start)) result }
+    ensures { (kinds : Kinds) → AreTold (M.whole machine.now).program kinds (state_of (M.whole machine.now))
+        (write_in other.now (state_of (M.whole machine.now)) (record { start = start; count = count }) (data_place (M.whole machine.now).program start)) result }
 {
     let Some(place) = data_place_in(machine, start) else {
         return None;
@@ -144,14 +147,14 @@ fn wrote_at<'c, A: Allocator + Copy>(
 }
 
 /// What was to be written, if writes are compared.
-fn wrote<'c, A: Allocator + Copy>(
-    machine: &Machine<'c, A>,
+fn wrote<'c, A: Allocator + Copy + 'c, M: Readers<A, Code<'c, A>>>(
+    machine: &M,
     other: &Code<'c, A>,
     kinds: Kinds,
     before: Before,
 ) -> Option<Told>
     ensures { (due : Due) → IsAhead kinds due before.ahead
-        → AreTold machine.now.program kinds (state_of machine.now) (write_by machine.now.program other.now kinds (state_of machine.now) due.writes) result }
+        → AreTold (M.whole machine.now).program kinds (state_of (M.whole machine.now)) (write_by (M.whole machine.now).program other.now kinds (state_of (M.whole machine.now)) due.writes) result }
 {
     if !kinds.writes {
         return None;
@@ -163,12 +166,12 @@ fn wrote<'c, A: Allocator + Copy>(
 }
 
 /// The first byte of output after so many, if output is compared.
-pub fn byte_out<A: Allocator + Copy>(
-    machine: &Machine<'_, A>,
+pub fn byte_out<'c, A: Allocator + Copy + 'c, M: Readers<A, Code<'c, A>>>(
+    machine: &M,
     kinds: Kinds,
     told: usize,
 ) -> Option<Told>
-    ensures { AreTold machine.now.program kinds (state_of machine.now) (bytes_out kinds (drop told machine.now.output)) result }
+    ensures { AreTold (M.whole machine.now).program kinds (state_of (M.whole machine.now)) (bytes_out kinds (drop told (M.whole machine.now).output)) result }
 {
     if !kinds.output {
         return None;
@@ -185,15 +188,15 @@ pub fn byte_out<A: Allocator + Copy>(
 
 /// The first event of a step, by the machine after it.
 #[inline(always)]
-pub fn happened<'c, A: Allocator + Copy>(
-    machine: &Machine<'c, A>,
+pub fn happened<'c, A: Allocator + Copy + 'c, M: Readers<A, Code<'c, A>>>(
+    machine: &M,
     other: &Code<'c, A>,
     kinds: Kinds,
     before: Before,
     alike: u16,
 ) -> Option<Told>
-    requires { AreNamedAlike machine.now.program other.now alike }
-    ensures { HasHappened machine.now.program other.now kinds before (state_of machine.now) result }
+    requires { AreNamedAlike (M.whole machine.now).program other.now alike }
+    ensures { HasHappened (M.whole machine.now).program other.now kinds before (state_of (M.whole machine.now)) result }
 {
     if is_over(machine) {
         return ended(machine, kinds, before);

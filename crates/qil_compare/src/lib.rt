@@ -1,7 +1,6 @@
 //! Two runs side by side, and the first event in which they differ.
 //!
-//! `specs/Events.antt` says what an event is, `specs/Answer.antt` what is answered. Nothing here takes memory but the moves of
-//! the two histories.
+//! `specs/Events.antt` says what an event is, `specs/Answer.antt` what is answered. Nothing here takes memory.
 #![tactic(auto)]
 
 mod ahead;
@@ -9,6 +8,7 @@ mod alike;
 mod calls;
 mod comparing;
 mod event;
+mod forward;
 mod happened;
 mod laws;
 mod running;
@@ -19,7 +19,7 @@ mod standing;
 pub use calls::{call_name, param_count, param_seen, returns_in};
 pub use comparing::{Answer, Verdict, compare};
 pub use event::{Event, Found, Kinds};
+pub use forward::Forward;
 pub use laws::number_is_of_longest_front;
-pub use same::byte_behind;
 pub use seen::{DataPlace, Seen};
 pub use standing::{func_name_in, place_or_nowhere, seen_in};

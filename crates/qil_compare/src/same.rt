@@ -18,8 +18,9 @@ use crate::calls::{param_count, param_held, returns_in};
 use crate::event::Event;
 use crate::seen::{same_place, same_seen};
 use crate::standing::{address_seen_in, place_or_nowhere, seen_in};
+use qil_code::Code;
+use qil_history::Readers;
 use qil_layout::FuncId;
-use qil_machine::Machine;
 use qil_state::{Fault, Status};
 use qil_tree::AbiType;
 use std::alloc::Allocator;
@@ -37,13 +38,13 @@ fn is_plain(abi_type: AbiType) -> bool
 
 /// Whether two values of types are the same, of which one may be an address.
 #[inline(never)]
-fn same_addressed<'c, A: Allocator + Copy>(
-    left: &Machine<'c, A>,
-    right: &Machine<'c, A>,
+fn same_addressed<'c, A: Allocator + Copy + 'c, M: Readers<A, Code<'c, A>>>(
+    left: &M,
+    right: &M,
     one: (AbiType, u64),
     other: (AbiType, u64),
 ) -> bool
-    ensures { IsTrue result ↔ (seen left.now.program one.0 one.1 ≡ seen right.now.program other.0 other.1) }
+    ensures { IsTrue result ↔ (seen (M.whole left.now).program one.0 one.1 ≡ seen (M.whole right.now).program other.0 other.1) }
 {
     same_seen(
         seen_in(left, one.0, one.1),
@@ -53,13 +54,13 @@ fn same_addressed<'c, A: Allocator + Copy>(
 
 /// Whether two values of types are the same. Nearly all are numbers.
 #[inline(always)]
-fn same_typed<'c, A: Allocator + Copy>(
-    left: &Machine<'c, A>,
-    right: &Machine<'c, A>,
+fn same_typed<'c, A: Allocator + Copy + 'c, M: Readers<A, Code<'c, A>>>(
+    left: &M,
+    right: &M,
     one: (AbiType, u64),
     other: (AbiType, u64),
 ) -> bool
-    ensures { IsTrue result ↔ (seen left.now.program one.0 one.1 ≡ seen right.now.program other.0 other.1) }
+    ensures { IsTrue result ↔ (seen (M.whole left.now).program one.0 one.1 ≡ seen (M.whole right.now).program other.0 other.1) }
 {
     if is_plain(one.0) && is_plain(other.0) {
         return one.1 == other.1;
@@ -69,15 +70,15 @@ fn same_typed<'c, A: Allocator + Copy>(
 
 /// Whether what two functions returned is the same: a value, or none.
 #[inline(always)]
-fn same_returned<'c, A: Allocator + Copy>(
-    left: &Machine<'c, A>,
-    right: &Machine<'c, A>,
+fn same_returned<'c, A: Allocator + Copy + 'c, M: Readers<A, Code<'c, A>>>(
+    left: &M,
+    right: &M,
     func: FuncId,
     second: FuncId,
     value: Option<u64>,
     returned: Option<u64>,
 ) -> bool
-    ensures { IsTrue result ↔ (option_map (seen left.now.program (returns_of left.now.program func)) value ≡ option_map (seen right.now.program (returns_of right.now.program second)) returned) }
+    ensures { IsTrue result ↔ (option_map (seen (M.whole left.now).program (returns_of (M.whole left.now).program func)) value ≡ option_map (seen (M.whole right.now).program (returns_of (M.whole right.now).program second)) returned) }
 {
     match value {
         Some(one) => match returned {
@@ -95,8 +96,11 @@ fn same_returned<'c, A: Allocator + Copy>(
 
 /// Whether the parameters of the innermost frames of two machines have the same values.
 #[inline(always)]
-fn same_params<'c, A: Allocator + Copy>(left: &Machine<'c, A>, right: &Machine<'c, A>) -> bool
-    ensures { IsTrue result ↔ (call_params left.now.program (state_of left.now).frames ≡ call_params right.now.program (state_of right.now).frames) }
+fn same_params<'c, A: Allocator + Copy + 'c, M: Readers<A, Code<'c, A>>>(
+    left: &M,
+    right: &M,
+) -> bool
+    ensures { IsTrue result ↔ (call_params (M.whole left.now).program (state_of (M.whole left.now)).frames ≡ call_params (M.whole right.now).program (state_of (M.whole right.now)).frames) }
 {
     let count = param_count(left);
     if count != param_count(right) {
@@ -114,44 +118,29 @@ fn same_params<'c, A: Allocator + Copy>(left: &Machine<'c, A>, right: &Machine<'
 
 /// Whether two calls are the same: of one function, with the same values.
 #[inline(always)]
-fn same_calls<'c, A: Allocator + Copy>(
-    left: &Machine<'c, A>,
-    right: &Machine<'c, A>,
+fn same_calls<'c, A: Allocator + Copy + 'c, M: Readers<A, Code<'c, A>>>(
+    left: &M,
+    right: &M,
     alike: u16,
 ) -> bool
-    requires { AreNamedAlike left.now.program right.now.program alike }
-    ensures { IsTrue result ↔ (event_at left.now.program (state_of left.now) coded.Call ≡ event_at right.now.program (state_of right.now) coded.Call) }
+    requires { AreNamedAlike (M.whole left.now).program (M.whole right.now).program alike }
+    ensures { IsTrue result ↔ (event_at (M.whole left.now).program (state_of (M.whole left.now)) coded.Call ≡ event_at (M.whole right.now).program (state_of (M.whole right.now)) coded.Call) }
 {
     same_call_names(left, right, alike) && same_params(left, right)
 }
 
-/// The byte so far after an address, if it is live. After the last address there is none.
-pub fn byte_behind<A: Allocator + Copy>(
-    machine: &Machine<'_, A>,
-    address: u64,
-    offset: u64,
-) -> Option<u8>
-    ensures { result ≡ live machine.now.memory (address + offset) }
-{
-    let _top = machine.top();
-    match address.checked_add(offset) {
-        Some(at) => machine.byte(at),
-        None => None,
-    }
-}
-
 /// Whether so many bytes of two memories are the same, from an address on in each.
-fn same_bytes<'c, A: Allocator + Copy>(
-    left: &Machine<'c, A>,
-    right: &Machine<'c, A>,
+fn same_bytes<'c, A: Allocator + Copy + 'c, M: Readers<A, Code<'c, A>>>(
+    left: &M,
+    right: &M,
     start: u64,
     second: u64,
     count: u64,
 ) -> bool
-    ensures { IsTrue result ↔ (bytes_from (live left.now.memory) start count ≡ bytes_from (live right.now.memory) second count) }
+    ensures { IsTrue result ↔ (bytes_from (live (M.whole left.now).memory) start count ≡ bytes_from (live (M.whole right.now).memory) second count) }
 {
     for i in 0..count {
-        if byte_behind(left, start, i) != byte_behind(right, second, i) {
+        if left.byte_after(start, i) != right.byte_after(second, i) {
             return false;
         }
     }
@@ -160,15 +149,15 @@ fn same_bytes<'c, A: Allocator + Copy>(
 
 /// Whether two writes are the same: to one place of the data, of the same bytes.
 #[inline(never)]
-fn same_writes<'c, A: Allocator + Copy>(
-    left: &Machine<'c, A>,
-    right: &Machine<'c, A>,
+fn same_writes<'c, A: Allocator + Copy + 'c, M: Readers<A, Code<'c, A>>>(
+    left: &M,
+    right: &M,
     start: u64,
     second: u64,
     count: u64,
     many: u64,
 ) -> bool
-    ensures { IsTrue result ↔ (event_at left.now.program (state_of left.now) (coded.Write start count) ≡ event_at right.now.program (state_of right.now) (coded.Write second many)) }
+    ensures { IsTrue result ↔ (event_at (M.whole left.now).program (state_of (M.whole left.now)) (coded.Write start count) ≡ event_at (M.whole right.now).program (state_of (M.whole right.now)) (coded.Write second many)) }
 {
     if count != many {
         return false;
@@ -184,30 +173,30 @@ fn same_writes<'c, A: Allocator + Copy>(
 
 /// Whether two returns are the same: of one function, with one value or none.
 #[inline(always)]
-fn same_returns<'c, A: Allocator + Copy>(
-    left: &Machine<'c, A>,
-    right: &Machine<'c, A>,
+fn same_returns<'c, A: Allocator + Copy + 'c, M: Readers<A, Code<'c, A>>>(
+    left: &M,
+    right: &M,
     func: FuncId,
     second: FuncId,
     value: Option<u64>,
     returned: Option<u64>,
     alike: u16,
 ) -> bool
-    requires { AreNamedAlike left.now.program right.now.program alike }
-    ensures { IsTrue result ↔ (event_at left.now.program (state_of left.now) (coded.Return func value) ≡ event_at right.now.program (state_of right.now) (coded.Return second returned)) }
+    requires { AreNamedAlike (M.whole left.now).program (M.whole right.now).program alike }
+    ensures { IsTrue result ↔ (event_at (M.whole left.now).program (state_of (M.whole left.now)) (coded.Return func value) ≡ event_at (M.whole right.now).program (state_of (M.whole right.now)) (coded.Return second returned)) }
 {
     same_names(image_of(left), image_of(right), func, second, alike)
         && same_returned(left, right, func, second, value, returned)
 }
 
 /// Whether the addresses of two faults count as the same.
-fn same_addresses<'c, A: Allocator + Copy>(
-    left: &Machine<'c, A>,
-    right: &Machine<'c, A>,
+fn same_addresses<'c, A: Allocator + Copy + 'c, M: Readers<A, Code<'c, A>>>(
+    left: &M,
+    right: &M,
     address: u64,
     second: u64,
 ) -> bool
-    ensures { IsTrue result ↔ (address_seen left.now.program address ≡ address_seen right.now.program second) }
+    ensures { IsTrue result ↔ (address_seen (M.whole left.now).program address ≡ address_seen (M.whole right.now).program second) }
 {
     same_seen(
         address_seen_in(left, address),
@@ -216,13 +205,13 @@ fn same_addresses<'c, A: Allocator + Copy>(
 }
 
 /// Whether two faults are the same: of one kind, and of the same address if they have one.
-fn same_faults<'c, A: Allocator + Copy>(
-    left: &Machine<'c, A>,
-    right: &Machine<'c, A>,
+fn same_faults<'c, A: Allocator + Copy + 'c, M: Readers<A, Code<'c, A>>>(
+    left: &M,
+    right: &M,
     one: Fault,
     other: Fault,
 ) -> bool
-    ensures { (ns ms : List Name) → IsTrue result ↔ (cause_of left.now.program (fault_of ns one) ≡ cause_of right.now.program (fault_of ms other)) }
+    ensures { (ns ms : List Name) → IsTrue result ↔ (cause_of (M.whole left.now).program (fault_of ns one) ≡ cause_of (M.whole right.now).program (fault_of ms other)) }
 {
     match one {
         Fault::Unset(_) => match other {
@@ -243,13 +232,13 @@ fn same_faults<'c, A: Allocator + Copy>(
 
 /// Whether two runs ended the same, each in a function.
 #[inline(never)]
-fn same_ends<'c, A: Allocator + Copy>(
-    left: &Machine<'c, A>,
-    right: &Machine<'c, A>,
+fn same_ends<'c, A: Allocator + Copy + 'c, M: Readers<A, Code<'c, A>>>(
+    left: &M,
+    right: &M,
     func: FuncId,
     second: FuncId,
 ) -> bool
-    ensures { IsTrue result ↔ (event_at left.now.program (state_of left.now) (coded.End func) ≡ event_at right.now.program (state_of right.now) (coded.End second)) }
+    ensures { IsTrue result ↔ (event_at (M.whole left.now).program (state_of (M.whole left.now)) (coded.End func) ≡ event_at (M.whole right.now).program (state_of (M.whole right.now)) (coded.End second)) }
 {
     match left.status() {
         Status::Running => right.status() == Status::Running,
@@ -267,15 +256,15 @@ fn same_ends<'c, A: Allocator + Copy>(
 
 /// Whether two events are the same.
 #[inline(always)]
-pub fn same_event<'c, A: Allocator + Copy>(
-    left: &Machine<'c, A>,
-    right: &Machine<'c, A>,
+pub fn same_event<'c, A: Allocator + Copy + 'c, M: Readers<A, Code<'c, A>>>(
+    left: &M,
+    right: &M,
     one: Event,
     other: Event,
     alike: u16,
 ) -> bool
-    requires { AreNamedAlike left.now.program right.now.program alike }
-    ensures { IsTrue result ↔ (event_at left.now.program (state_of left.now) one ≡ event_at right.now.program (state_of right.now) other) }
+    requires { AreNamedAlike (M.whole left.now).program (M.whole right.now).program alike }
+    ensures { IsTrue result ↔ (event_at (M.whole left.now).program (state_of (M.whole left.now)) one ≡ event_at (M.whole right.now).program (state_of (M.whole right.now)) other) }
 {
     match one {
         Event::Output(byte) => match other {

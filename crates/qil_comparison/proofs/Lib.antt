@@ -1,4 +1,6 @@
 -- The lemmas of this crate.
 pub mod Values
 pub mod Comparisons
+pub mod Bare
+pub mod Reporting
 pub mod Loads

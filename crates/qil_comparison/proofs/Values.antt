@@ -79,10 +79,8 @@ pub told_same : {A : Type 0} (p q : Program A) (t u : Timeline) (v : Verdict) (a
 told_same p q t u verdicts.Same answer same = refl
 told_same p q t u verdicts.Part answer same = absurd cc
 told_same p q t u verdicts.Limit answer same = absurd cc
-told_same p q t u verdicts.OutOfMemory answer same = absurd cc
 
 pub told_other : {A : Type 0} (p q : Program A) (t u : Timeline) (v : Verdict) (answer : Answer) (r : Bool) → (IsTrue r ↔ (v ≡ verdicts.Same)) → r ≡ false → verdict_line answer.verdict answer.events ++ sides_text p q t u answer ≡ answer_text p q t u v answer
 told_other p q t u verdicts.Same answer r test off = absurd (true≢false (sym (test.1 refl) ∙ off))
 told_other p q t u verdicts.Part answer r test off = refl
 told_other p q t u verdicts.Limit answer r test off = refl
-told_other p q t u verdicts.OutOfMemory answer r test off = refl

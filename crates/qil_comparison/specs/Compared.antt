@@ -1,6 +1,6 @@
 -- What is written of two texts: the refusal of one of them; or the report of where their runs part, and what a script is
 -- answered there.
-use Rattle.std.specs.Prelude.{◌≡◌, ℕ, ◌+◌, ◌^◌, ◌⊎◌, true, false, List, [], ◌∷◌, ◌++◌, take, codes, Option, Some, None, IfSome}
+use Rattle.std.specs.Prelude.{◌≡◌, ℕ, ◌+◌, ◌^◌, ◌⊎◌, Bool, true, false, List, [], ◌∷◌, ◌++◌, take, codes, Option, Some, None, IfSome, is_some}
 use Rattle.std.specs.Io.KnownBytes.{Appends, Consumes}
 use Rattle.qil_tree.specs.declared.tree.Program.{Program}
 use Rattle.qil_rules.specs.Verdict as accepted
@@ -51,7 +51,7 @@ keeps None session side = Some 0
 
 -- a text as `debug` is given it
 abbrev pub opened_as : Text → Request → SideName → scripts.Setup
-opened_as text r side = record { text = text.bytes.now; entry = r.func.now; args = r.args.now; limit = r.limit; keeps = keeps r.bound r.session side; moves_want_memory = true }
+opened_as text r side = record { text = text.bytes.now; entry = r.func.now; args = r.args.now; limit = r.limit; keeps = keeps r.bound r.session side; moves_want_memory = is_some r.bound }
 
 abbrev pub good_setup : Setup → scripts.Setup
 good_setup s = opened_as s.good s.request Good
@@ -79,11 +79,15 @@ NumberIs r q Part n = HaveLongest r q n
 NumberIs r q Same n = HaveSame r q n
 NumberIs r q verdict n = AgreeSoFar r q n
 
+-- a session without stops; without a bound it goes back by copies of states, so no move of it wants memory
+abbrev pub session_on : {A : Type 0} → Bool → Program A → Timeline → ℕ → SessionState A
+session_on wants_memory p t limit = session_at wants_memory p t (record { given = 0; kept = [] }) limit
+
 -- the session on the side that one is asked of, where its run came to
 abbrev pub session_there : {A : Type 0} → Request → Option SideName → Program A → Program A → Timeline → Timeline → Option (SessionState A)
 session_there r None p q t u = None
-session_there r (Some Good) p q t u = Some (session_at true p t (record { given = 0; kept = [] }) r.limit)
-session_there r (Some Bad) p q t u = Some (session_at true q u (record { given = 0; kept = [] }) r.limit)
+session_there r (Some Good) p q t u = Some (session_on (is_some r.bound) p t r.limit)
+session_there r (Some Bad) p q t u = Some (session_on (is_some r.bound) q u r.limit)
 
 -- what the lines of a script may be answered there; nothing without a session
 abbrev pub AreAnswers : {A : Type 0} → Option (SessionState A) → List (List ℕ) → List ℕ → Type 0

@@ -1,4 +1,5 @@
 -- The definitions.
 pub mod Told
+pub mod Running
 pub mod Compared
 pub mod Handed

@@ -55,7 +55,6 @@ abbrev pub found_line : {A : Type 0} → Program A → State → Found → List 
 found_line p s (founds.Event event) = event_line (event_at p s event)
 found_line p s founds.Over = codes "none\n"
 found_line p s founds.Limit = codes "limit\n"
-found_line p s founds.OutOfMemory = codes "memory\n"
 
 -- ---- an answer
 
@@ -75,7 +74,6 @@ abbrev pub verdict_line : Verdict → ℕ → List ℕ
 verdict_line verdicts.Same events = text_of (codes "same " ∷ decimal events ∷ codes " events\n" ∷ [])
 verdict_line verdicts.Part events = text_of (codes "part at event " ∷ decimal events ∷ codes "\n" ∷ [])
 verdict_line verdicts.Limit events = text_of (codes "limit at event " ∷ decimal events ∷ codes "\n" ∷ [])
-verdict_line verdicts.OutOfMemory events = text_of (codes "memory at event " ∷ decimal events ∷ codes "\n" ∷ [])
 
 abbrev pub sides_text : {A : Type 0} → Program A → Program A → Timeline → Timeline → Answer → List ℕ
 sides_text p q t u answer = side_text (codes "good: ") p t answer.good ++ side_text (codes "bad: ") q u answer.bad

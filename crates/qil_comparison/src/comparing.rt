@@ -34,8 +34,9 @@ fn name_on<'t>(good: &Text<'t>, bad: &Text<'t>, side: SideName) -> &'t [u8]
 /// read from `source` line by line, and answered on that side. `request.limit` is 1 to 4,294,967,295, and `request.bound` 1 to
 /// 1,000,000, if there is one. Where a text is refused, its refusal alone is written, after the name of its file.
 ///
-/// Where memory is wanting to load the texts the answer is `Memory`, and neither device was touched. Where it is wanting for a
-/// move, that is told of its side.
+/// Where memory is wanting to load the texts the answer is `Memory`, and neither device was touched. All that both runs may want is
+/// taken at their starts, so that no move of theirs wants memory, however many there are. Where it is wanting for the session the
+/// answer is `Unserved`. Without a bound the copies of its states take 64 MB at most, as long as more than the first is there.
 pub fn compare_texts<'t, A: Allocator + Copy, S: Source, W: Sink>(
     alloc: A,
     keys: RandomState,

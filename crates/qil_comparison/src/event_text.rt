@@ -13,14 +13,14 @@ ghost use Rattle.qil_compare.specs.Events.{byte_out, bytes_from, call_params};
 ghost use Rattle.qil_compare.specs.Next.{event_at, returns_of};
 ghost use Rattle.qil_comparison.specs.Told.{place_text, value_text, further_value, values_text, returned_text, event_line, found_line};
 
+use qil_code::Code;
 use qil_compare::{
-    DataPlace, Event, Found, Seen, byte_behind, call_name, func_name_in, param_count, param_seen,
+    DataPlace, Event, Found, Seen, call_name, func_name_in, param_count, param_seen,
     place_or_nowhere, returns_in, seen_in,
 };
 use qil_fragments::{Fragment, put_fragments};
 use qil_layout::FuncId;
-use qil_machine::Machine;
-use qil_render::{put_byte, put_next_byte, put_quoted};
+use qil_render::{Readers, put_byte, put_next_byte, put_quoted};
 use qil_streams::{Put, PutError};
 use std::alloc::Allocator;
 
@@ -76,34 +76,34 @@ fn put_next_seen<P: Put>(out: &mut P, value: Seen<'_>) -> Result<(), PutError>
 }
 
 /// Puts so many bytes of memory from an address on in a line.
-fn put_bytes<A: Allocator + Copy, P: Put>(
-    machine: &Machine<'_, A>,
+fn put_bytes<'c, A: Allocator + Copy + 'c, M: Readers<A, Code<'c, A>>, P: Put>(
+    machine: &M,
     out: &mut P,
     start: u64,
     count: u64,
 ) -> Result<(), PutError>
     requires { P.stops out.old < 2 ^ 64 - 1 }
-    ensures { HasPut P.written P.stops P.device result out.old out.new (line (bytes_text (bytes_from (live machine.now.memory) start count))) }
+    ensures { HasPut P.written P.stops P.device result out.old out.new (line (bytes_text (bytes_from (live (M.whole machine.now).memory) start count))) }
 {
     if count == 0 {
         return out.put(b"\n");
     }
-    put_byte(out, machine.byte(start))?;
+    put_byte(out, machine.byte_after(start, 0))?;
     for offset in 1..count {
-        put_next_byte(out, byte_behind(machine, start, offset))?;
+        put_next_byte(out, machine.byte_after(start, offset))?;
     }
     out.put(b"\n")
 }
 
 /// Puts a write to data.
-fn put_write<A: Allocator + Copy, P: Put>(
-    machine: &Machine<'_, A>,
+fn put_write<'c, A: Allocator + Copy + 'c, M: Readers<A, Code<'c, A>>, P: Put>(
+    machine: &M,
     out: &mut P,
     start: u64,
     count: u64,
 ) -> Result<(), PutError>
     requires { P.stops out.old < 2 ^ 64 - 1 }
-    ensures { HasPut P.written P.stops P.device result out.old out.new (event_line (event_at machine.now.program (state_of machine.now) (events.Write start count))) }
+    ensures { HasPut P.written P.stops P.device result out.old out.new (event_line (event_at (M.whole machine.now).program (state_of (M.whole machine.now)) (events.Write start count))) }
 {
     out.put(b"write ")?;
     put_data(out, place_or_nowhere(machine, start))?;
@@ -112,12 +112,12 @@ fn put_write<A: Allocator + Copy, P: Put>(
 }
 
 /// Puts the values of the parameters of the innermost frame, commas between them.
-fn put_params<A: Allocator + Copy, P: Put>(
-    machine: &Machine<'_, A>,
+fn put_params<'c, A: Allocator + Copy + 'c, M: Readers<A, Code<'c, A>>, P: Put>(
+    machine: &M,
     out: &mut P,
 ) -> Result<(), PutError>
     requires { P.stops out.old < 2 ^ 64 - 1 }
-    ensures { HasPut P.written P.stops P.device result out.old out.new (values_text (call_params machine.now.program (state_of machine.now).frames)) }
+    ensures { HasPut P.written P.stops P.device result out.old out.new (values_text (call_params (M.whole machine.now).program (state_of (M.whole machine.now)).frames)) }
 {
     let count = param_count(machine);
     if count == 0 {
@@ -131,12 +131,12 @@ fn put_params<A: Allocator + Copy, P: Put>(
 }
 
 /// Puts a call: of the function of the innermost frame.
-fn put_call<A: Allocator + Copy, P: Put>(
-    machine: &Machine<'_, A>,
+fn put_call<'c, A: Allocator + Copy + 'c, M: Readers<A, Code<'c, A>>, P: Put>(
+    machine: &M,
     out: &mut P,
 ) -> Result<(), PutError>
     requires { P.stops out.old < 2 ^ 64 - 1 }
-    ensures { HasPut P.written P.stops P.device result out.old out.new (event_line (event_at machine.now.program (state_of machine.now) events.Call)) }
+    ensures { HasPut P.written P.stops P.device result out.old out.new (event_line (event_at (M.whole machine.now).program (state_of (M.whole machine.now)) events.Call)) }
 {
     put_fragments(
         out,
@@ -161,14 +161,14 @@ fn put_last_seen<P: Put>(out: &mut P, value: Seen<'_>) -> Result<(), PutError>
 }
 
 /// Puts what a function returned, if it is a value, and the end of the line.
-fn put_returned<A: Allocator + Copy, P: Put>(
-    machine: &Machine<'_, A>,
+fn put_returned<'c, A: Allocator + Copy + 'c, M: Readers<A, Code<'c, A>>, P: Put>(
+    machine: &M,
     out: &mut P,
     func: FuncId,
     value: Option<u64>,
 ) -> Result<(), PutError>
     requires { P.stops out.old < 2 ^ 64 - 1 }
-    ensures { HasPut P.written P.stops P.device result out.old out.new (returned_text (option_map (seen machine.now.program (returns_of machine.now.program func)) value)) }
+    ensures { HasPut P.written P.stops P.device result out.old out.new (returned_text (option_map (seen (M.whole machine.now).program (returns_of (M.whole machine.now).program func)) value)) }
 {
     match value {
         Some(value) => put_last_seen(out, seen_in(machine, returns_in(machine, func), value)),
@@ -177,14 +177,14 @@ fn put_returned<A: Allocator + Copy, P: Put>(
 }
 
 /// Puts a return, with its value if there is one.
-fn put_return<A: Allocator + Copy, P: Put>(
-    machine: &Machine<'_, A>,
+fn put_return<'c, A: Allocator + Copy + 'c, M: Readers<A, Code<'c, A>>, P: Put>(
+    machine: &M,
     out: &mut P,
     func: FuncId,
     value: Option<u64>,
 ) -> Result<(), PutError>
     requires { P.stops out.old < 2 ^ 64 - 1 }
-    ensures { HasPut P.written P.stops P.device result out.old out.new (event_line (event_at machine.now.program (state_of machine.now) (events.Return func value))) }
+    ensures { HasPut P.written P.stops P.device result out.old out.new (event_line (event_at (M.whole machine.now).program (state_of (M.whole machine.now)) (events.Return func value))) }
 {
     put_fragments(
         out,
@@ -197,13 +197,13 @@ fn put_return<A: Allocator + Copy, P: Put>(
 }
 
 /// Puts the line of an event.
-fn put_event<A: Allocator + Copy, P: Put>(
-    machine: &Machine<'_, A>,
+fn put_event<'c, A: Allocator + Copy + 'c, M: Readers<A, Code<'c, A>>, P: Put>(
+    machine: &M,
     out: &mut P,
     event: Event,
 ) -> Result<(), PutError>
     requires { P.stops out.old < 2 ^ 64 - 1 }
-    ensures { HasPut P.written P.stops P.device result out.old out.new (event_line (event_at machine.now.program (state_of machine.now) event)) }
+    ensures { HasPut P.written P.stops P.device result out.old out.new (event_line (event_at (M.whole machine.now).program (state_of (M.whole machine.now)) event)) }
 {
     match event {
         Event::Output(byte) => put_output(out, byte),
@@ -215,18 +215,17 @@ fn put_event<A: Allocator + Copy, P: Put>(
 }
 
 /// Puts the line of what was found.
-pub fn put_found<A: Allocator + Copy, P: Put>(
-    machine: &Machine<'_, A>,
+pub fn put_found<'c, A: Allocator + Copy + 'c, M: Readers<A, Code<'c, A>>, P: Put>(
+    machine: &M,
     out: &mut P,
     found: Found,
 ) -> Result<(), PutError>
     requires { P.stops out.old < 2 ^ 64 - 1 }
-    ensures { HasPut P.written P.stops P.device result out.old out.new (found_line machine.now.program (state_of machine.now) found) }
+    ensures { HasPut P.written P.stops P.device result out.old out.new (found_line (M.whole machine.now).program (state_of (M.whole machine.now)) found) }
 {
     match found {
         Found::Event(event) => put_event(machine, out, event),
         Found::Over => out.put(b"none\n"),
         Found::Limit => out.put(b"limit\n"),
-        Found::OutOfMemory => out.put(b"memory\n"),
     }
 }

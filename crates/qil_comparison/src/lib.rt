@@ -6,11 +6,13 @@
 
 mod comparing;
 mod event_text;
+mod flat_run;
 mod loading;
 mod outcome;
 mod refusal;
 mod request;
 mod serving;
+mod sessions;
 mod sides;
 mod telling;
 

@@ -17,12 +17,12 @@ ghost use Rattle.qil_comparison.specs.Handed.{IsUnloaded, IsUnloadedOn, StartRef
 
 use crate::outcome::Outcome;
 use crate::request::{Request, SideName, Text};
-use crate::sides::run_machines;
+use crate::sides::run_sides;
 use qil_code::Code;
+use qil_flat::flatten;
 use qil_layout::Image;
 use qil_layout_builder::layout;
 use qil_loading::{LoadError, Refusal, check_text};
-use qil_machine::Machine;
 use qil_resolution::number;
 use qil_rules::Checked;
 use qil_semantics::StartFault;
@@ -63,8 +63,7 @@ fn can_start<A: Allocator + Copy>(
     Ok(())
 }
 
-/// Starts two programs, and runs them.
-// Each start takes its code at the lifetime that both are there for, so that nothing before it does.
+/// Flattens the code of two programs, and runs them.
 fn run_ready<'c, 'g, 'i, A: Allocator + Copy + 'c, S: Source, W: Sink>(
     alloc: A,
     good: &'c Code<'g, A>,
@@ -85,12 +84,12 @@ fn run_ready<'c, 'g, 'i, A: Allocator + Copy + 'c, S: Source, W: Sink>(
     ensures few { IfSome (S.remaining source.old) (λ script. TakesFew script (S.remaining source.new)) }
     ensures counted { CountsFaults result (S.failures source.old) (S.failures source.new) (W.failures sink.old) (W.failures sink.new) }
 {
-    let first = match Machine::start(alloc, good, request.func, request.args) {
-        Ok(machine) => machine,
+    let first = match flatten(alloc, good) {
+        Ok(code) => code,
         Err(_) => return Outcome::Memory,
     };
-    match Machine::start(alloc, bad, request.func, request.args) {
-        Ok(second) => run_machines(alloc, first, second, request, source, sink),
+    match flatten(alloc, bad) {
+        Ok(second) => run_sides(alloc, &first, &second, request, source, sink),
         Err(_) => Outcome::Memory,
     }
 }

@@ -25,7 +25,7 @@ pub struct Request<'r> {
     pub kinds: Kinds,
     /// The most moves between two events, and of one `continue` or `reverse`.
     pub limit: u64,
-    /// The most moves of each side that can be undone, if there is a bound.
+    /// The most moves that the session can undo, if there is a bound. Without one it goes back by copies of states.
     pub bound: Option<u64>,
     /// The side on which a script is served, if there is one.
     pub session: Option<SideName>,

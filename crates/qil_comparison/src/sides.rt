@@ -1,39 +1,44 @@
-//! Runs two machines side by side from their starts, writes the report, and serves a script on one of them.
+//! Runs two programs side by side from their starts, writes the report, and serves a script on one of them.
 
 ghost use Rattle.std.specs.Prelude.{◌≡◌, ◌≢◌, ◌-◌, ◌^◌, ◌<◌, ◌≤◌, None, Some, IfSome};
 ghost use Rattle.qil_rules.specs.Verdict as accepted;
-ghost use Rattle.qil_semantics.specs.State.{State};
 ghost use Rattle.qil_semantics.specs.Timeline.{position};
-ghost use Rattle.qil_state.specs.State.{state_of};
+ghost use Rattle.qil_loading.specs.Load.{Accepts};
 ghost use Rattle.qil_streams.specs.Device.{Counts, Puts};
 ghost use Rattle.qil_session.specs.Serve.{TakesFew};
 ghost use Rattle.qil_comparison.specs.declared.request.Text.{Text};
 ghost use Rattle.qil_comparison.specs.Told.{told_text};
-ghost use Rattle.qil_comparison.specs.Compared.{Begin, CountsFaults, IsUntouched, Written, setup_of, keeps, good_begun, bad_begun};
+ghost use Rattle.qil_comparison.specs.Compared.{CountsFaults, IsUntouched, Written, setup_of};
+ghost use Rattle.qil_comparison.specs.Handed.{IsReport};
 
+use crate::flat_run::FlatRun;
 use crate::outcome::Outcome;
 use crate::request::{Request, SideName};
-use crate::serving::serve_at;
+use crate::sessions::serve_from;
 use crate::telling::put_answer;
-use qil_compare::{Answer, compare};
-use qil_history::History;
-use qil_machine::Machine;
-use qil_session::Stepwise;
+use qil_code::Code;
+use qil_compare::{Answer, Forward, compare};
+use qil_flat::FlatCode;
 use qil_streams::{Outlet, PutError, Sink, Source};
-use qil_undo_log::{BoundedUndoLog, UndoLog};
 use std::alloc::Allocator;
 
+/// What came of a comparison, and how many moves each side made.
+#[derive(Clone, Copy)]
+pub struct Reported {
+    pub answer: Answer,
+    pub good: u64,
+    pub bad: u64,
+}
+
 /// Writes the report of a comparison.
-fn write_answer<
-    's,
-    'c,
-    A: Allocator + Copy + 'c,
-    H: History<A, Machine<'c, A>>,
-    K: History<A, Machine<'c, A>>,
-    W: Sink,
->(sink: &'s mut W, good: &'s H, bad: &'s K, answer: Answer) -> Result<(), PutError>
+fn write_answer<'c, A: Allocator + Copy + 'c, R: Forward<A, Code<'c, A>>, W: Sink>(
+    sink: &mut W,
+    good: &R,
+    bad: &R,
+    answer: Answer,
+) -> Result<(), PutError>
     requires writes { W.failures sink.old < 2 ^ 64 - 1 }
-    ensures text { Puts result (W.contents sink.old) (W.contents sink.new) (told_text (H.program good.now) (K.program bad.now) (H.timeline good.now) (K.timeline bad.now) answer) }
+    ensures text { Puts result (W.contents sink.old) (W.contents sink.new) (told_text (R.whole good.now).program (R.whole bad.now).program (R.timeline good.now) (R.timeline bad.now) answer) }
     ensures counted { Counts result (W.failures sink.old) (W.failures sink.new) }
 {
     let mut out = Outlet { sink };
@@ -42,128 +47,71 @@ fn write_answer<
     put
 }
 
-/// Runs both histories side by side, writes the report, and serves the script if one is asked for.
-fn run_histories<
-    'c,
-    A: Allocator + Copy + 'c,
-    H: History<A, Machine<'c, A>> + Stepwise + Drop,
-    K: History<A, Machine<'c, A>> + Stepwise + Drop,
-    S: Source,
-    W: Sink,
->(alloc: A, mut good: H, mut bad: K, request: &Request<'_>, source: &mut S, sink: &mut W) -> Outcome
-    requires reads { S.failures source.old < 2 ^ 64 - 1 }
+/// Compares two runs from their starts, and writes the report.
+fn report<'c, A: Allocator + Copy + 'c, R: Forward<A, Code<'c, A>> + Drop, W: Sink>(
+    good: R,
+    bad: R,
+    request: &Request<'_>,
+    sink: &mut W,
+) -> Result<Reported, PutError>
     requires writes { W.failures sink.old < 2 ^ 64 - 1 }
     requires limit { request.now.limit ≤ 4294967295 }
-    requires start { (position (H.timeline good) ≤ 1000000000000000000) × (position (K.timeline bad) ≤ 1000000000000000000) }
-    ensures written { (one two : Text) (p q : accepted.Verdict A) (s t : State) → Begin (setup_of one two request.now) p q s t
-        → H.program good ≡ p.program → K.program bad ≡ q.program → H.timeline good ≡ good_begun (setup_of one two request.now) s → K.timeline bad ≡ bad_begun (setup_of one two request.now) t
-        → Written A result (setup_of one two request.now) (S.remaining source.old) (S.remaining source.new) (W.contents sink.old) (W.contents sink.new) }
-    ensures ran { result ≢ Outcome.Refused }
-    ensures untouched { IsUntouched result source.old source.new }
-    ensures unasked { request.now.session ≡ None → source.new ≡ source.old }
-    ensures few { IfSome (S.remaining source.old) (λ script. TakesFew script (S.remaining source.new)) }
-    ensures counted { CountsFaults result (S.failures source.old) (S.failures source.new) (W.failures sink.old) (W.failures sink.new) }
+    requires start { (position (R.timeline good) ≡ 0) × (position (R.timeline bad) ≡ 0) }
+    ensures report { IsReport request.now (R.whole good).program (R.whole bad).program (R.timeline good).now (R.timeline bad).now result (W.contents sink.old) (W.contents sink.new) }
+    ensures counted { Counts result (W.failures sink.old) (W.failures sink.new) }
 {
+    let (mut good, mut bad) = (good, bad);
     let answer = compare(request.kinds, &mut good, &mut bad, request.limit);
     match write_answer(sink, &good, &bad, answer) {
-        Ok(()) => {}
+        Ok(()) => Ok(Reported {
+            answer,
+            good: good.position(),
+            bad: bad.position(),
+        }),
+        Err(error) => Err(error),
+    }
+}
+
+/// Runs two programs that can be started: compares their runs, writes the report, and serves the script if one is asked for.
+// The side of a session is run once more, to where the comparison left it: a run that keeps what a session needs is slower.
+pub fn run_sides<'c, 'g, 'i, A: Allocator + Copy + 'c, S: Source, W: Sink>(
+    alloc: A,
+    good: &'c FlatCode<'g, A>,
+    bad: &'c FlatCode<'i, A>,
+    request: &Request<'_>,
+    source: &mut S,
+    sink: &mut W,
+) -> Outcome
+    requires reads { S.failures source.old < 2 ^ 64 - 1 }
+    requires writes { W.failures sink.old < 2 ^ 64 - 1 }
+    requires limit { request.now.limit ≤ 4294967295 }
+    requires bound { IfSome request.now.bound (λ n. n ≤ 1000000) }
+    ensures written { (one two : Text) (p q : accepted.Verdict A) → Accepts one.bytes.now p → Accepts two.bytes.now q → good.entry.now.program ≡ p.program → bad.entry.now.program ≡ q.program
+        → Written A result (setup_of one two request.now) (S.remaining source.old) (S.remaining source.new) (W.contents sink.old) (W.contents sink.new) }
+    ensures ran { result ≢ Outcome.Refused }
+    ensures untouched { IsUntouched result source.old source.new }
+    ensures unasked { request.now.session ≡ None → source.new ≡ source.old }
+    ensures few { IfSome (S.remaining source.old) (λ script. TakesFew script (S.remaining source.new)) }
+    ensures counted { CountsFaults result (S.failures source.old) (S.failures source.new) (W.failures sink.old) (W.failures sink.new) }
+{
+    let first = match FlatRun::start(alloc, good, request.func, request.args) {
+        Ok(first) => first,
+        Err(_) => return Outcome::Memory,
+    };
+    let second = match FlatRun::start(alloc, bad, request.func, request.args) {
+        Ok(second) => second,
+        Err(_) => return Outcome::Memory,
+    };
+    let reported = match report(first, second, request, sink) {
+        Ok(reported) => reported,
         Err(PutError) => return Outcome::WriteFault,
-    }
+    };
+    let told = reported.answer.verdict;
     match request.session {
-        None => Outcome::Told(answer.verdict),
+        None => Outcome::Told(told),
         Some(SideName::Good) => {
-            serve_at(alloc, good, request.limit, answer.verdict, source, sink)
+            serve_from(alloc, good, reported.good, told, request, source, sink)
         }
-        Some(SideName::Bad) => serve_at(alloc, bad, request.limit, answer.verdict, source, sink),
-    }
-}
-
-/// How many moves a side keeps: as many as the bound. Without one the side of the session keeps all, and any other none.
-fn kept(request: &Request<'_>, side: SideName) -> Option<u64>
-    requires bound { IfSome request.now.bound (λ n. n ≤ 1000000) }
-    ensures kept { result ≡ keeps request.now.bound request.now.session side }
-    ensures few { IfSome result (λ n. n ≤ 1000000) }
-{
-    match (request.session, side) {
-        (Some(SideName::Good), SideName::Good) | (Some(SideName::Bad), SideName::Bad) => {
-            request.bound
-        }
-        _ => Some(request.bound.unwrap_or(0)),
-    }
-}
-
-/// Runs a history of the good side and the machine of the bad one.
-fn run_beside<
-    'c,
-    A: Allocator + Copy + 'c,
-    H: History<A, Machine<'c, A>> + Stepwise + Drop,
-    S: Source,
-    W: Sink,
->(
-    alloc: A,
-    good: H,
-    bad: Machine<'c, A>,
-    request: &Request<'_>,
-    source: &mut S,
-    sink: &mut W,
-) -> Outcome
-    requires reads { S.failures source.old < 2 ^ 64 - 1 }
-    requires writes { W.failures sink.old < 2 ^ 64 - 1 }
-    requires limit { request.now.limit ≤ 4294967295 }
-    requires start { position (H.timeline good) ≤ 1000000000000000000 }
-    requires bound { IfSome request.now.bound (λ n. n ≤ 1000000) }
-    ensures written { (one two : Text) (p q : accepted.Verdict A) (s : State) → Begin (setup_of one two request.now) p q s (state_of bad.entry)
-        → H.program good ≡ p.program → bad.entry.program ≡ q.program → H.timeline good ≡ good_begun (setup_of one two request.now) s
-        → Written A result (setup_of one two request.now) (S.remaining source.old) (S.remaining source.new) (W.contents sink.old) (W.contents sink.new) }
-    ensures ran { result ≢ Outcome.Refused }
-    ensures untouched { IsUntouched result source.old source.new }
-    ensures unasked { request.now.session ≡ None → source.new ≡ source.old }
-    ensures few { IfSome (S.remaining source.old) (λ script. TakesFew script (S.remaining source.new)) }
-    ensures counted { CountsFaults result (S.failures source.old) (S.failures source.new) (W.failures sink.old) (W.failures sink.new) }
-{
-    match kept(request, SideName::Bad) {
-        Some(bound) => match BoundedUndoLog::new(alloc, bad, bound) {
-            Ok(bad) => run_histories(alloc, good, bad, request, source, sink),
-            Err(_) => Outcome::Memory,
-        },
-        None => {
-            let bad = UndoLog::new(alloc, bad);
-            run_histories(alloc, good, bad, request, source, sink)
-        }
-    }
-}
-
-/// Runs both machines: the side that a session is asked of keeps its moves, the other one none.
-// One side after the other gets its history: where both are known, a call compares all that both promise.
-pub fn run_machines<'c, A: Allocator + Copy + 'c, S: Source, W: Sink>(
-    alloc: A,
-    good: Machine<'c, A>,
-    bad: Machine<'c, A>,
-    request: &Request<'_>,
-    source: &mut S,
-    sink: &mut W,
-) -> Outcome
-    requires reads { S.failures source.old < 2 ^ 64 - 1 }
-    requires writes { W.failures sink.old < 2 ^ 64 - 1 }
-    requires limit { request.now.limit ≤ 4294967295 }
-    requires bound { IfSome request.now.bound (λ n. n ≤ 1000000) }
-    ensures written { (one two : Text) (p q : accepted.Verdict A) → Begin (setup_of one two request.now) p q (state_of good.entry) (state_of bad.entry)
-        → good.entry.program ≡ p.program → bad.entry.program ≡ q.program
-        → Written A result (setup_of one two request.now) (S.remaining source.old) (S.remaining source.new) (W.contents sink.old) (W.contents sink.new) }
-    ensures ran { result ≢ Outcome.Refused }
-    ensures untouched { IsUntouched result source.old source.new }
-    ensures unasked { request.now.session ≡ None → source.new ≡ source.old }
-    ensures few { IfSome (S.remaining source.old) (λ script. TakesFew script (S.remaining source.new)) }
-    ensures counted { CountsFaults result (S.failures source.old) (S.failures source.new) (W.failures sink.old) (W.failures sink.new) }
-{
-    match kept(request, SideName::Good) {
-        Some(bound) => match BoundedUndoLog::new(alloc, good, bound) {
-            Ok(good) => run_beside(alloc, good, bad, request, source, sink),
-            Err(_) => Outcome::Memory,
-        },
-        None => {
-            let good = UndoLog::new(alloc, good);
-            run_beside(alloc, good, bad, request, source, sink)
-        }
+        Some(SideName::Bad) => serve_from(alloc, bad, reported.bad, told, request, source, sink),
     }
 }

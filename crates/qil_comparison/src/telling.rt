@@ -11,10 +11,8 @@ ghost use Rattle.qil_comparison.specs.Told.{way_line, side_text, sides_text, ver
 
 use crate::event_text::put_found;
 use qil_code::Code;
-use qil_compare::{Answer, Found, Verdict};
+use qil_compare::{Answer, Forward, Found, Verdict};
 use qil_fragments::{Fragment, put_fragments};
-use qil_history::{History, machine_of};
-use qil_machine::Machine;
 use qil_render::{Readers, put_block, put_frames, put_place};
 use qil_streams::{Put, PutError};
 use std::alloc::Allocator;
@@ -37,9 +35,6 @@ fn put_verdict<P: Put>(out: &mut P, verdict: Verdict, events: u64) -> Result<(),
         ),
         Verdict::Part => put_fragments(out, &[Fragment::Bytes(b"part at event "), count, end]),
         Verdict::Limit => put_fragments(out, &[Fragment::Bytes(b"limit at event "), count, end]),
-        Verdict::OutOfMemory => {
-            put_fragments(out, &[Fragment::Bytes(b"memory at event "), count, end])
-        }
     }
 }
 
@@ -79,32 +74,30 @@ fn put_stand<'s, 'c, A: Allocator + Copy + 'c, M: Readers<A, Code<'c, A>>, P: Pu
 }
 
 /// Puts the report of one side.
-fn put_side<'s, 'c, A: Allocator + Copy + 'c, H: History<A, Machine<'c, A>>, P: Put>(
+fn put_side<'s, 'c, A: Allocator + Copy + 'c, R: Forward<A, Code<'c, A>>, P: Put>(
     out: &'s mut P,
     name: &'s [u8],
-    history: &'s H,
+    side: &'s R,
     found: Found,
 ) -> Result<(), PutError>
     requires stops { P.stops out.old < 2 ^ 64 - 1 }
-    ensures { HasPut P.written P.stops P.device result out.old out.new (side_text name.now (H.program history.now) (H.timeline history.now) found) }
+    ensures { HasPut P.written P.stops P.device result out.old out.new (side_text name.now (R.whole side.now).program (R.timeline side.now) found) }
 {
-    let machine = machine_of(history);
+    side.is_read();
     out.put(name)?;
-    put_found(machine, out, found)?;
-    put_stand(out, history.position(), machine)
+    put_found(side, out, found)?;
+    put_stand(out, side.position(), side)
 }
 
 /// Puts the report of both sides.
-fn put_sides<
-    's,
-    'c,
-    A: Allocator + Copy + 'c,
-    H: History<A, Machine<'c, A>>,
-    K: History<A, Machine<'c, A>>,
-    P: Put,
->(out: &'s mut P, good: &'s H, bad: &'s K, answer: Answer) -> Result<(), PutError>
+fn put_sides<'s, 'c, A: Allocator + Copy + 'c, R: Forward<A, Code<'c, A>>, P: Put>(
+    out: &'s mut P,
+    good: &'s R,
+    bad: &'s R,
+    answer: Answer,
+) -> Result<(), PutError>
     requires stops { P.stops out.old < 2 ^ 64 - 1 }
-    ensures { HasPut P.written P.stops P.device result out.old out.new (sides_text (H.program good.now) (K.program bad.now) (H.timeline good.now) (K.timeline bad.now) answer) }
+    ensures { HasPut P.written P.stops P.device result out.old out.new (sides_text (R.whole good.now).program (R.whole bad.now).program (R.timeline good.now) (R.timeline bad.now) answer) }
 {
     put_side(out, b"good: ", good, answer.good)?;
     put_side(out, b"bad: ", bad, answer.bad)
@@ -116,21 +109,19 @@ fn is_same(verdict: Verdict) -> bool
 {
     match verdict {
         Verdict::Same => true,
-        Verdict::Part | Verdict::Limit | Verdict::OutOfMemory => false,
+        Verdict::Part | Verdict::Limit => false,
     }
 }
 
 /// Puts the report of a comparison.
-pub fn put_answer<
-    's,
-    'c,
-    A: Allocator + Copy + 'c,
-    H: History<A, Machine<'c, A>>,
-    K: History<A, Machine<'c, A>>,
-    P: Put,
->(out: &'s mut P, good: &'s H, bad: &'s K, answer: Answer) -> Result<(), PutError>
+pub fn put_answer<'s, 'c, A: Allocator + Copy + 'c, R: Forward<A, Code<'c, A>>, P: Put>(
+    out: &'s mut P,
+    good: &'s R,
+    bad: &'s R,
+    answer: Answer,
+) -> Result<(), PutError>
     requires stops { P.stops out.old < 2 ^ 64 - 1 }
-    ensures { HasPut P.written P.stops P.device result out.old out.new (told_text (H.program good.now) (K.program bad.now) (H.timeline good.now) (K.timeline bad.now) answer) }
+    ensures { HasPut P.written P.stops P.device result out.old out.new (told_text (R.whole good.now).program (R.whole bad.now).program (R.timeline good.now) (R.timeline bad.now) answer) }
 {
     if is_same(answer.verdict) {
         return put_verdict(out, answer.verdict, answer.events);

@@ -9,7 +9,6 @@ use Rattle.qil_comparison.specs.declared.outcome.Outcome.TheVariants as outcomes
 abbrev pub told_status : Verdict → ℕ
 told_status verdicts.Same = 0
 told_status verdicts.Part = 1
-told_status verdicts.OutOfMemory = 3
 told_status verdicts.Limit = 4
 
 -- after a comparison

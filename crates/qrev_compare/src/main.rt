@@ -100,7 +100,7 @@ fn outcome_status(outcome: Outcome) -> u8
         Outcome::Told(Verdict::Same) => 0,
         Outcome::Told(Verdict::Part) => 1,
         Outcome::Told(Verdict::Limit) => 4,
-        Outcome::Told(Verdict::OutOfMemory) | Outcome::Unserved | Outcome::Memory => 3,
+        Outcome::Unserved | Outcome::Memory => 3,
         Outcome::Refused => 65,
         Outcome::ReadFault | Outcome::WriteFault | Outcome::TooLong => 2,
     }

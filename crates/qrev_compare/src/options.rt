@@ -41,7 +41,7 @@ fn session_arg<'a>(alloc: Global) -> Arg<'a> {
 
 fn make_command<'a>(alloc: Global) -> Result<Command<'a>, clap::Error> {
     let limit = "The most moves between two events, and of one continue or reverse";
-    let history = "Only the last N moves of each side can be taken back, 1 to 1000000";
+    let history = "The session keeps only its last N moves, 1 to 1000000, and no copies of states";
     let command = Command::new(alloc, "qrev-compare")
         .about("Runs two texts in QBE IL side by side, and tells the first place where they part")
         .arg(file_arg(

@@ -6,9 +6,9 @@ use Rattle.qil_compare.proofs.Likeness.{alike_as}
 use Rattle.qil_compare.proofs.alike.has_called.Goals as goal
 
 pub has_like-requires : goal.has_like-requires
-has_like-requires g c = alike_as c.args.machine.now.program c.args.code.now c.image_of.result.now c.args.code.now c.args.alike (sym c.image_of.ensures) refl c.requires
+has_like-requires g c = alike_as (g.M.Readers.whole c.args.machine.now).program c.args.code.now c.image_of.result.now c.args.code.now c.args.alike (sym c.image_of.ensures) refl c.requires
 
 pub returns-in-None : goal.returns-in-None
 returns-in-None g c =
-    let none : call_name (frames_state c.args.machine.now.program c.args.machine.now.frames) ≡ [] = search rules in
+    let none : call_name (frames_state (g.M.Readers.whole c.args.machine.now).program (g.M.Readers.whole c.args.machine.now).frames) ≡ [] = search rules in
     c.has_func.ensures ∙ ap (has_func c.args.code.now) (sym none)

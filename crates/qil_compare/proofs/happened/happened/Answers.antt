@@ -6,16 +6,16 @@ use Rattle.qil_compare.proofs.happened.happened.Goals as goal
 
 pub returns-then-is_over : goal.returns-then-is_over
 returns-then-is_over g c = λ s due ed eo of ahead.
-    let p = c.args.machine.now.program in
-    let t = state_of c.args.machine.now in
+    let p = (g.M.Readers.whole c.args.machine.now).program in
+    let t = state_of (g.M.Readers.whole c.args.machine.now) in
     told_as p c.args.kinds t c.ended.result _ _
     (by_tests p c.args.other.now c.args.kinds due s t true _ _ _ (record { over_is = sym c.is_over.ensures ∙ c.if-is_over.true; called_is = refl; returned_is = refl; put_is = refl }))
     (c.ended.ensures due of)
 
 pub returns-then-before-depth : goal.returns-then-before-depth
 returns-then-before-depth g c = λ s due ed eo of ahead.
-    let p = c.args.machine.now.program in
-    let t = state_of c.args.machine.now in
+    let p = (g.M.Readers.whole c.args.machine.now).program in
+    let t = state_of (g.M.Readers.whole c.args.machine.now) in
     told_as p c.args.kinds t c.called.result _ _
     (by_tests p c.args.other.now c.args.kinds due s t false true _ _ (record {
       over_is = sym c.is_over.ensures ∙ c.if-is_over.false;

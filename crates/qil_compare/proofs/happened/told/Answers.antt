@@ -5,4 +5,4 @@ use Rattle.qil_compare.proofs.Happening.{plain_told}
 use Rattle.qil_compare.proofs.happened.told.Goals as goal
 
 pub returns : goal.returns
-returns g c = λ kinds. plain_told c.args.machine.now.program kinds (state_of c.args.machine.now) c.args.event _ (ap length c.output.ensures)
+returns g c = λ kinds. plain_told (g.M.Readers.whole c.args.machine.now).program kinds (state_of (g.M.Readers.whole c.args.machine.now)) c.args.event _ (ap length c.output.ensures)

@@ -5,5 +5,5 @@ use Rattle.qil_compare.proofs.same.same_event.Goals as goal
 
 pub returns-in-Output-other : goal.returns-in-Output-other
 returns-in-Output-other g c =
-    same_output c.args.left.now.program c.args.right.now.program (state_of c.args.left.now) (state_of c.args.right.now) c.args.one c.args.other
+    same_output (g.M.Readers.whole c.args.left.now).program (g.M.Readers.whole c.args.right.now).program (state_of (g.M.Readers.whole c.args.left.now)) (state_of (g.M.Readers.whole c.args.right.now)) c.args.one c.args.other
     c.in-Output.byte c.in-Output-other.second c.in-Output.is c.in-Output-other.is

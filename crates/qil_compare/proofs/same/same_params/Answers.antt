@@ -10,5 +10,5 @@ loop-i-init g c = λ j lt. absurd (omega (arith, lt))
 
 pub returns : goal.returns
 returns g c =
-    all_alike (call_params c.args.left.now.program (state_of c.args.left.now).frames) (call_params c.args.right.now.program (state_of c.args.right.now).frames)
+    all_alike (call_params (g.M.Readers.whole c.args.left.now).program (state_of (g.M.Readers.whole c.args.left.now)).frames) (call_params (g.M.Readers.whole c.args.right.now).program (state_of (g.M.Readers.whole c.args.right.now)).frames)
     c.param_count-count.result c.param_count.result c.loop-i.i c.param_count-count.ensures c.param_count.ensures c.if-count-param_count.false c.loop-i-test.false c.loop-i.invariant

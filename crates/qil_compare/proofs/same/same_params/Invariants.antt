@@ -5,4 +5,4 @@ use Rattle.qil_compare.proofs.Sameness.{AreAlike}
 use Rattle.qil_compare.proofs.same.same_params.Given as goal
 
 abbrev pub invariant-loop-i : goal.invariant-loop-i
-invariant-loop-i g l = AreAlike (call_params l.left.program (state_of l.left).frames) (call_params l.right.program (state_of l.right).frames) l.i
+invariant-loop-i g l = AreAlike (call_params (g.M.Readers.whole l.left).program (state_of (g.M.Readers.whole l.left)).frames) (call_params (g.M.Readers.whole l.right).program (state_of (g.M.Readers.whole l.right)).frames) l.i

@@ -5,4 +5,4 @@ use Rattle.qil_compare.proofs.same.same_returns.Goals as goal
 
 pub same_names-requires : goal.same_names-requires
 same_names-requires g c =
-    alike_as c.args.left.now.program c.args.right.now.program c.image_of.result.now c.image_of-2.result.now c.args.alike (sym c.image_of.ensures) (sym c.image_of-2.ensures) c.requires
+    alike_as (g.M.Readers.whole c.args.left.now).program (g.M.Readers.whole c.args.right.now).program c.image_of.result.now c.image_of-2.result.now c.args.alike (sym c.image_of.ensures) (sym c.image_of-2.ensures) c.requires

@@ -10,7 +10,7 @@ use Rattle.qil_comparison.proofs.event_text.put_bytes.Given as goal
 
 abbrev pub invariant-loop-offset : goal.invariant-loop-offset
 invariant-loop-offset g l = record {
-  text : Reported (line (bytes_text (bytes_from (live l.fn.machine.memory) l.fn.start l.fn.count))) (later_bytes (live l.fn.machine.memory) (l.fn.start + l.offset) (l.fn.count - l.offset)) (g.P.Put.written l.fn.out) (g.P.Put.written l.out);
+  text : Reported (line (bytes_text (bytes_from (live (g.M.Readers.whole l.fn.machine).memory) l.fn.start l.fn.count))) (later_bytes (live (g.M.Readers.whole l.fn.machine).memory) (l.fn.start + l.offset) (l.fn.count - l.offset)) (g.P.Put.written l.fn.out) (g.P.Put.written l.out);
   counted : g.P.Put.stops l.out ≡ g.P.Put.stops l.fn.out;
   device : g.P.Put.device l.out ≡ g.P.Put.device l.fn.out;
 }

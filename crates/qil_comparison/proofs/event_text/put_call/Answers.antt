@@ -9,18 +9,18 @@ use Rattle.qil_comparison.proofs.event_text.put_call.Goals as goal
 
 pub returns-in_err-put_fragments : goal.returns-in_err-put_fragments
 returns-in_err-put_fragments g c =
-    HasPut-as (ap (λ (name : List ℕ). text_of (codes "call $" ∷ name ∷ codes "(" ∷ []) ++ (values_text (call_params c.args.machine.now.program (state_of c.args.machine.now).frames) ++ codes ")\n")) c.call_name.ensures)
-    (HasPut-stop _ _ c.from_residual.ensures.1 _ _ _ (text_of (codes "call $" ∷ c.call_name.result.now ∷ codes "(" ∷ [])) ((values_text (call_params c.args.machine.now.program (state_of c.args.machine.now).frames)) ++ (codes ")\n")) c.in_err-put_fragments.ensures)
+    HasPut-as (ap (λ (name : List ℕ). text_of (codes "call $" ∷ name ∷ codes "(" ∷ []) ++ (values_text (call_params (g.M.Readers.whole c.args.machine.now).program (state_of (g.M.Readers.whole c.args.machine.now)).frames) ++ codes ")\n")) c.call_name.ensures)
+    (HasPut-stop _ _ c.from_residual.ensures.1 _ _ _ (text_of (codes "call $" ∷ c.call_name.result.now ∷ codes "(" ∷ [])) ((values_text (call_params (g.M.Readers.whole c.args.machine.now).program (state_of (g.M.Readers.whole c.args.machine.now)).frames)) ++ (codes ")\n")) c.in_err-put_fragments.ensures)
 
 pub returns-in_err-put_params : goal.returns-in_err-put_params
 returns-in_err-put_params g c =
-    HasPut-as (ap (λ (name : List ℕ). text_of (codes "call $" ∷ name ∷ codes "(" ∷ []) ++ (values_text (call_params c.args.machine.now.program (state_of c.args.machine.now).frames) ++ codes ")\n")) c.call_name.ensures)
-    (HasPut-append _ _ _ _ _ (text_of (codes "call $" ∷ c.call_name.result.now ∷ codes "(" ∷ [])) ((values_text (call_params c.args.machine.now.program (state_of c.args.machine.now).frames)) ++ (codes ")\n")) c.in_ok-put_fragments.ensures
-    (HasPut-stop _ _ c.from_residual-in_err-put_params.ensures.1 _ _ _ (values_text (call_params c.args.machine.now.program (state_of c.args.machine.now).frames)) (codes ")\n") c.in_err-put_params.ensures))
+    HasPut-as (ap (λ (name : List ℕ). text_of (codes "call $" ∷ name ∷ codes "(" ∷ []) ++ (values_text (call_params (g.M.Readers.whole c.args.machine.now).program (state_of (g.M.Readers.whole c.args.machine.now)).frames) ++ codes ")\n")) c.call_name.ensures)
+    (HasPut-append _ _ _ _ _ (text_of (codes "call $" ∷ c.call_name.result.now ∷ codes "(" ∷ [])) ((values_text (call_params (g.M.Readers.whole c.args.machine.now).program (state_of (g.M.Readers.whole c.args.machine.now)).frames)) ++ (codes ")\n")) c.in_ok-put_fragments.ensures
+    (HasPut-stop _ _ c.from_residual-in_err-put_params.ensures.1 _ _ _ (values_text (call_params (g.M.Readers.whole c.args.machine.now).program (state_of (g.M.Readers.whole c.args.machine.now)).frames)) (codes ")\n") c.in_err-put_params.ensures))
 
 pub returns : goal.returns
 returns g c =
-    HasPut-as (ap (λ (name : List ℕ). text_of (codes "call $" ∷ name ∷ codes "(" ∷ []) ++ (values_text (call_params c.args.machine.now.program (state_of c.args.machine.now).frames) ++ codes ")\n")) c.call_name.ensures)
-    (HasPut-append _ _ _ _ _ (text_of (codes "call $" ∷ c.call_name.result.now ∷ codes "(" ∷ [])) ((values_text (call_params c.args.machine.now.program (state_of c.args.machine.now).frames)) ++ (codes ")\n")) c.in_ok-put_fragments.ensures
-    (HasPut-append _ _ _ _ _ (values_text (call_params c.args.machine.now.program (state_of c.args.machine.now).frames)) (codes ")\n") c.in_ok-put_params.ensures
+    HasPut-as (ap (λ (name : List ℕ). text_of (codes "call $" ∷ name ∷ codes "(" ∷ []) ++ (values_text (call_params (g.M.Readers.whole c.args.machine.now).program (state_of (g.M.Readers.whole c.args.machine.now)).frames) ++ codes ")\n")) c.call_name.ensures)
+    (HasPut-append _ _ _ _ _ (text_of (codes "call $" ∷ c.call_name.result.now ∷ codes "(" ∷ [])) ((values_text (call_params (g.M.Readers.whole c.args.machine.now).program (state_of (g.M.Readers.whole c.args.machine.now)).frames)) ++ (codes ")\n")) c.in_ok-put_fragments.ensures
+    (HasPut-append _ _ _ _ _ (values_text (call_params (g.M.Readers.whole c.args.machine.now).program (state_of (g.M.Readers.whole c.args.machine.now)).frames)) (codes ")\n") c.in_ok-put_params.ensures
     (c.put.ensures)))

@@ -12,13 +12,13 @@ use Rattle.qil_comparison.proofs.event_text.put_params.Goals as goal
 
 pub returns-in_err-put_seen : goal.returns-in_err-put_seen
 returns-in_err-put_seen g c =
-    let vs = call_params c.args.machine.now.program (state_of c.args.machine.now).frames in
+    let vs = call_params (g.M.Readers.whole c.args.machine.now).program (state_of (g.M.Readers.whole c.args.machine.now)).frames in
     HasPut-as (sym (values_first vs (value_of c.param_seen.result) c.param_seen.ensures))
     (HasPut-stop _ _ c.from_residual.ensures.1 _ _ _ (value_text (value_of c.param_seen.result)) (flat_map further_value (drop 1 vs)) c.in_err-put_seen.ensures)
 
 pub loop-i-init : goal.loop-i-init
 loop-i-init g c =
-    let vs = call_params c.args.machine.now.program (state_of c.args.machine.now).frames in
+    let vs = call_params (g.M.Readers.whole c.args.machine.now).program (state_of (g.M.Readers.whole c.args.machine.now)).frames in
     record {
       text = reported_more _ (value_text (value_of c.param_seen.result)) (flat_map further_value (drop 1 vs)) _ _ _
           (reported_as _ _ _ _ _ (values_first vs (value_of c.param_seen.result) c.param_seen.ensures) (reported_none (values_text vs) _)) c.in_ok-put_seen.ensures.text;
@@ -28,7 +28,7 @@ loop-i-init g c =
 
 pub returns-in_err-put_next_seen : goal.returns-in_err-put_next_seen
 returns-in_err-put_next_seen g c =
-    let vs = call_params c.args.machine.now.program (state_of c.args.machine.now).frames in
+    let vs = call_params (g.M.Readers.whole c.args.machine.now).program (state_of (g.M.Readers.whole c.args.machine.now)).frames in
     let i = c.loop-i.i in
     record {
       text = reported_stop _ (further_value (value_of c.param_seen-in-loop-i.result)) (flat_map further_value (drop (i + 1) vs)) _ _ _
@@ -40,7 +40,7 @@ returns-in_err-put_next_seen g c =
 
 pub loop-i-preserved : goal.loop-i-preserved
 loop-i-preserved g c =
-    let vs = call_params c.args.machine.now.program (state_of c.args.machine.now).frames in
+    let vs = call_params (g.M.Readers.whole c.args.machine.now).program (state_of (g.M.Readers.whole c.args.machine.now)).frames in
     let i = c.loop-i.i in
     record {
       text = reported_more _ (further_value (value_of c.param_seen-in-loop-i.result)) (flat_map further_value (drop (i + 1) vs)) _ _ _
@@ -51,7 +51,7 @@ loop-i-preserved g c =
 
 pub returns : goal.returns
 returns g c =
-    let vs = call_params c.args.machine.now.program (state_of c.args.machine.now).frames in
+    let vs = call_params (g.M.Readers.whole c.args.machine.now).program (state_of (g.M.Readers.whole c.args.machine.now)).frames in
     record {
       text = reported_all _ _ _ (reported_as _ _ _ _ _ (values_end vs c.param_count-count.result c.loop-i.i c.param_count-count.ensures c.loop-i-test.false) c.loop-i.invariant.text);
       counted = search rules;
