@@ -20,6 +20,7 @@ class Adapters:
         self.program, self.addressed = program, addressed
         self.unit = Unit(Text("adapters", [], {}, []), False)
         self.by_shape: dict[Shape, Symbol | None] = {}
+        self.new: list[Symbol] = []
 
     def adapter(self, signature: Signature, has_dots: bool, aggregates: dict[str, Aggregate]) -> Symbol | None:
         """The adapter for calls of a shape, or None where none is needed."""
@@ -29,7 +30,13 @@ class Adapters:
         if key not in self.by_shape:
             others = [symbol for symbol in self.addressed if self.is_other(symbol.shape(), signature, has_dots)]
             self.by_shape[key] = self.made(signature, others, named) if others else None
+            self.new += filter(None, [self.by_shape[key]])
         return self.by_shape[key]
+
+    def take_new(self) -> list[Symbol]:
+        """The adapters that were made since this was last asked, which are to be written."""
+        new, self.new = self.new, []
+        return new
 
     def is_other(self, has: Signature, call: Signature, has_dots: bool) -> bool:
         """Whether a call may still reach a function of another shape."""

@@ -9,6 +9,7 @@ def others() -> dict[str, str]:
              "fstat64": "fstat", "ftruncate64": "ftruncate", "mmap64": "mmap", "putchar_unlocked": "putchar",
              "__sysv_signal": "signal", "bsd_signal": "signal", "__errno": "__errno_location",
              "pthread_sigmask": "sigprocmask", "imaxdiv": "lldiv", "drem": "remainder", "dremf": "remainderf",
+             "roundeven": "rint", "roundevenf": "rintf", "gamma": "lgamma", "gammaf": "lgammaf",
              "wcstoimax": "wcstoll", "wcstoumax": "wcstoull", "__rawmemchr": "rawmemchr",
              "__xpg_basename": "basename", "secure_getenv": "getenv", "__environ": "environ", "_environ": "environ",
              "__progname": "program_invocation_short_name", "__progname_full": "program_invocation_name"}

@@ -200,6 +200,9 @@ def main(words: list[str]) -> int:
         return NOT_READ
     for line in lowering.overflows:
         print(f"qrev-lower: {line}", file=sys.stderr)
+    if lowering.overflows and len(input_bytes) > MOST_BYTES // 4:
+        print(f"qrev-lower: {given.input}, which it reads, has {len(input_bytes)} bytes, and is part of its data",
+              file=sys.stderr)
     for line in lowering.report.lines() if given.report else lowering.report.told():
         print(line, file=sys.stderr)
     return LEFT_OVER if lowering.overflows or lowering.report.would_halt() else 0

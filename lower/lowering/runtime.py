@@ -22,7 +22,7 @@ ENCODING = "latin-1"
 # singles, which ends in `f`.
 FLOATING = {
     "d(d)": "fabs floor ceil trunc round rint nearbyint sqrt cbrt exp exp2 expm1 log log2 log10 log1p sin cos tan asin "
-            "acos atan sinh cosh tanh asinh acosh atanh logb tgamma lgamma erf erfc",
+            "acos atan sinh cosh tanh asinh acosh atanh logb tgamma lgamma erf erfc exp10",
     "d(dd)": "fmod copysign fmin fmax pow atan2 hypot nextafter fdim remainder", "d(ddd)": "fma",
     "d(dw)": "ldexp scalbn", "d(dl)": "frexp modf scalbln", "d(ddl)": "remquo", "d(l)": "nan",
     "l(d)": "lround lrint llround llrint", "w(d)": "ilogb __fpclassify __signbit isnan isinf finite",
@@ -33,7 +33,9 @@ def floating_signatures() -> dict[str, Signature]:
     found = {"$atof": Signature("d", ("l",)), "$strtod": Signature("d", ("l", "l")),
              "$strtof": Signature("s", ("l", "l")), "$wcstod": Signature("d", ("l", "l")),
              "$wcstof": Signature("s", ("l", "l")), "$difftime": Signature("d", ("l", "l")),
-             "$drand48": Signature("d", ()), "$erand48": Signature("d", ("l",))}
+             "$drand48": Signature("d", ()), "$erand48": Signature("d", ("l",)),
+             "$lgamma_r": Signature("d", ("d", "l")), "$lgammaf_r": Signature("s", ("s", "l")),
+             "$sincos": Signature(None, ("d", "l", "l")), "$sincosf": Signature(None, ("s", "l", "l"))}
     for shape, names in FLOATING.items():
         for name in names.split():
             found["$" + name] = Signature(shape[0], tuple(shape[2:-1]))

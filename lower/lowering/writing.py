@@ -62,18 +62,23 @@ class ProgramWriter:
         for symbol in self.in_order():
             self.write_symbol(symbol)
         done = set(self.in_order())
-        for adapter in filter(None, self.adapters.by_shape.values()):
-            # What it does is told where it is called.
-            self.write_function(adapter, Report())
+        self.write_adapters()
         while more := [symbol for symbol in self.program.kept if symbol not in done]:
             for symbol in more:
                 self.write_symbol(symbol)
             done.update(more)
+            # The runtime calls by an address as well, as `qsort` does.
+            self.write_adapters()
         self.join_arrays()
         self.fit_heap()
         self.lay_out()
         self.chunks[:0] = [self.data_chunk(symbol) for symbol in self.data]
         return self.chunks
+
+    def write_adapters(self) -> None:
+        """Writes those that aren't written yet. What one does is told where it is called."""
+        for adapter in self.adapters.take_new():
+            self.write_function(adapter, Report())
 
     def in_order(self) -> list[Symbol]:
         """What is kept of the texts, in their order."""

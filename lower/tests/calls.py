@@ -79,6 +79,12 @@ class Calls:
         self.line(f"%t{result[1:]} =w cnew {result}, 0")
         self.plain("tell.w", f"w %t{result[1:]}")
 
+    def truth_of(self, name: str, *arguments: str) -> None:
+        """Calls and says whether the address isn't 0."""
+        result = self.call(name, "l", *arguments)
+        self.line(f"%t{result[1:]} =w cnel {result}, 0")
+        self.plain("tell.w", f"w %t{result[1:]}")
+
     def sign(self, name: str, *arguments: str) -> None:
         """Calls and says the sign of the result."""
         result = self.call(name, "w", *arguments)

@@ -7,6 +7,7 @@ import signal
 import subprocess
 import sys
 import tempfile
+import threading
 
 from .running import DATA, FOLDER, LOWER, TOP, Results, Running, differ
 
@@ -109,6 +110,15 @@ WHOLE = """export function w $main() {
 """
 
 
+# A text of the debugger's own language.
+PLAIN = """export function w $main() {
+@start
+	%x =w copy 7
+	ret %x
+}
+"""
+
+
 def unasked_faults(wrapper: Wrapper) -> Results:
     """What is lowered without --lower: at the prompt, for a check and for a page, and not for a script."""
     (wrapper.top / "whole.ssa").write_text(WHOLE)
@@ -130,6 +140,12 @@ def unasked_faults(wrapper: Wrapper) -> Results:
                                        (run.returncode, run.stderr))
     run = wrapper.run("--page", "--export", "out.html", "whole.ssa")
     yield "command/a page lowers", differ("status", (0, True), (run.returncode, (wrapper.top / "out.html").exists()))
+    for words, told in ((["whole.ssa", "--input", "x"], "--input"), (["--file=x", "whole.ssa"], "--file"),
+                        (["whole.ssa", "b.ssa"], "a second text, b.ssa,"),
+                        (["whole.ssa", "--", "1", "a"], "`a` behind --")):
+        run = wrapper.run(*words)
+        yield f"command/a script with {words}", differ(
+            "run", (64, f"qrev: {told} goes with --lower: "), (run.returncode, run.stderr.partition("./qrev")[0]))
     run = wrapper.run("whole.ssa")
     yield "command/a script doesn't lower", differ("run", (1, "refused: P2 line 3\n"), (run.returncode, run.stdout))
     for words in (["echo.ssa", "--", "a"], ["a.ssa", "b.ssa", "42"]):
@@ -142,6 +158,31 @@ def unasked_faults(wrapper: Wrapper) -> Results:
     run = wrapper.run("--prompt", "wrong.q.ssa")
     yield "command/the prompt of what is no QBE", differ(
         "run", (1, True, ""), (run.returncode, run.stdout.startswith("wrong.q.ssa:3: P1: "), run.stderr))
+
+
+def piped_faults(wrapper: Wrapper) -> Results:
+    """Texts that can be read only once: from standard input and from a pipe with a name."""
+    for name, text, end in (("whole", WHOLE, ", done 3\n"), ("plain", PLAIN, ", done 7\n")):
+        for word in ("-", "/dev/stdin"):
+            run = wrapper.run("--check", word, script=text)
+            yield f"command/a check of {word}, {name}", differ("end", (0, end, ""),
+                                                               (run.returncode, run.stdout[-9:], run.stderr))
+        run = wrapper.run("--page", "--export", f"{name}.html", "-", script=text)
+        yield f"command/a page of -, {name}", differ(
+            "status", (0, True), (run.returncode, (wrapper.top / f"{name}.html").exists()))
+        pipe = wrapper.top / f"{name}.pipe"
+        os.mkfifo(pipe)
+        writer = threading.Thread(target=pipe.write_text, args=(text,))
+        writer.start()
+        run = wrapper.run("--prompt", pipe.name, script="c\n")
+        writer.join()
+        yield f"command/the prompt of a pipe, {name}", differ(
+            "end", True, end[1:] in run.stdout)
+    run = wrapper.run("--check", "-", "--format", "gnu", script=PLAIN.replace("%x", "%y", 1))
+    yield "command/a refusal of -", differ("run", (1, True), (run.returncode, "/stdin:4: error: " in run.stdout))
+    run = wrapper.run("-", script="continue\n")
+    yield "command/a script of -", differ("status", 2, run.returncode)
+    yield "command/what is kept of pipes", differ("files", [], sorted(os.listdir(wrapper.top / "tmp")))
 
 
 def wrapper_faults(running: Running) -> Results:
@@ -180,6 +221,7 @@ def wrapper_faults(running: Running) -> Results:
             told = f"qrev: {words[-1]} comes before the program and all other words: ./qrev {words[-1]} FILE\n"
             yield f"command/{words}", differ("run", (64, "", told), (run.returncode, run.stdout, run.stderr))
         yield from unasked_faults(wrapper)
+        yield from piped_faults(wrapper)
         (wrapper.top / "read.ssa").write_text(READ)
         (wrapper.top / "given").write_bytes(b"Q\xff")
         for words in (["--input", "given", "read.ssa"], ["read.ssa", "--input=given", "--report"]):

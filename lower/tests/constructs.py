@@ -357,6 +357,35 @@ export function w $main() {
 }
 data $format = { b "%d %d %d %d\\0" }
 """, "done 0", "42 58 40 1"),
+    # The runtime calls $compare by its address, with the number of parameters of $add and in other classes.
+    Case("a call by an address in the runtime", """
+function w $add(w %a, w %b) {
+@start
+	%r =w add %a, %b
+	ret %r
+}
+function w $compare(l %a, l %b) {
+@start
+	%x =w loadw %a
+	%y =w loadw %b
+	%r =w sub %x, %y
+	ret %r
+}
+data $functions = { l $add }
+data $numbers = { w 3 1 2 }
+export function w $main() {
+@start
+	call $qsort(l $numbers, l 3, l 4, l $compare)
+	%p =l loadl $functions
+	%first =w loadw $numbers
+	%at =l add $numbers, 4
+	%second =w loadw %at
+	%sum =w call %p(w %first, w %second)
+	%r =w call $printf(l $format, ..., w %first, w %second, w %sum)
+	ret 0
+}
+data $format = { b "%d %d %d\\0" }
+""", "done 0", "1 2 3"),
     Case("built-in functions by their addresses", """
 data $s = { b "abc\\0" }
 data $functions = { l $puts $putchar }

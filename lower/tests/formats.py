@@ -6,7 +6,7 @@ import struct
 from typing import NamedTuple
 
 from .floats import double, string_of
-from .running import Results, Running
+from .running import Results, Running, differ
 
 COUNT, AT_ONCE = 6000, 1000
 LENGTHS = {"": 32, "hh": 32, "h": 32, "l": 64, "ll": 64, "z": 64, "j": 64, "t": 64}
@@ -172,6 +172,50 @@ def batch_fault(running: Running, forms: list[Format]) -> str | None:
         f"{run.end}, and {total} bytes wanted"
 
 
+def positioned(choice: random.Random) -> Format:
+    """Conversions that name their arguments by numbers: each of some, in any order, and some of them again."""
+    arguments: list[tuple[str, int]] = []
+    for _ in range(choice.randint(1, 6)):
+        kind = choice.choice(("w", "l", "d", "text"))
+        bits = {"w": integer(choice) & 2 ** 32 - 1, "l": integer(choice), "text": choice.randrange(len(STRINGS)),
+                "d": struct.unpack("<Q", struct.pack("<d", floating(choice)))[0]}[kind]
+        arguments.append((kind, bits))
+    named = [*range(len(arguments)), *(choice.randrange(len(arguments)) for _ in range(choice.randrange(4)))]
+    choice.shuffle(named)
+    letters = {"w": ("d", "i", "u", "x", "X", "o", "hd", "hhu"), "l": ("ld", "lx", "zu", "jd", "p"),
+               "d": ("f", "e", "g", "E", "G"), "text": ("s",)}
+    parts = [f"{choice.choice(('', ' ', 'and'))}%{index + 1}$"
+             f"{choice.choice(('', '-', '+', '0'))}{choice.choice(('', '3', '12'))}{choice.choice(('', '.2', '.7'))}"
+             f"{choice.choice(letters[arguments[index][0]])}" for index in named]
+    return Format("".join(parts), arguments)
+
+
+class Counted(NamedTuple):
+    """A format that stores by `%n` how many bytes there are, and the number that is written before."""
+
+    text: str
+    number: int
+
+
+def counted_fault(running: Running, forms: list[Counted]) -> str | None:
+    """`%n` of each length stores what the C library's does, and the bytes behind it stay."""
+    library = ctypes.CDLL(None)
+    buffer = ctypes.create_string_buffer(2000)
+    lines, data, wanted = ["export function w $main() {", "@start"], ["data $n = align 8 { l 0 }"], []
+    for index, (text, number) in enumerate(forms):
+        place = ctypes.c_uint64(2 ** 64 - 1)
+        library.snprintf(buffer, ctypes.c_size_t(2000), text.encode(), ctypes.c_int(number), ctypes.byref(place))
+        wanted.append(f"{buffer.value.decode()}={place.value:x}")
+        lines += ["\tstorel -1, $n", f"\t%r{index} =w call $printf(l $f{index}, ..., w {number}, l $n)",
+                  f"\t%n{index} =l loadl $n", f"\t%s{index} =w call $printf(l $told, ..., l %n{index})"]
+        data.append(f"data $f{index} = {{ b {string_of(text.encode())} 0 }}")
+    data.append('data $told = { b "=%lx\\n\\0" }')
+    lowered = running.lower_here("\n".join(lines + ["\tret 0", "}"] + data) + "\n")
+    if isinstance(lowered, str):
+        return lowered
+    return differ("lines", wanted, running.run(lowered.text).output.split("\n")[:-1])
+
+
 def results(running: Running) -> Results:
     choice = random.Random(4)
     forms = [made(choice) for _ in range(COUNT)]
@@ -182,3 +226,8 @@ def results(running: Running) -> Results:
     for begin in range(0, 1000, 500):
         batch = [form for form in forms[begin:begin + 500] if not form.text.endswith("%%")]
         yield f"formats/to memory {begin // 500 + 1} ({len(batch)} formats)", memory_fault(running, batch, choice)
+    yield "formats/by positions (400 formats)", batch_fault(running, [positioned(choice) for _ in range(400)])
+    counted = [Counted(f"{'x' * before}%{width}d%{length}n%% behind", choice.randrange(10 ** 6))
+               for length in LENGTHS for before, width in ((0, 1), (3, 7), (20, 300))]
+    counted += [Counted("%1$d and %2$hhn%1$5d", 7), Counted("%2$n%1$d", 12)]
+    yield f"formats/counts ({len(counted)} formats)", counted_fault(running, counted)

@@ -238,7 +238,7 @@ def asked(shape: Shape, given: list[Given]) -> Record:
         was_set = was_set - int(arguments[0]) + 1 & LONG if was_set else 0
     bits: list[int | bytes] = [value if isinstance(value, bytes) else bits_of(kind, value)
                                for kind, value in zip(shape.takes, given)]
-    error = ctypes.get_errno() if shape.name.startswith(("strto", "ato")) and shape.gives not in "ds" else 0
+    error = ctypes.get_errno() if shape.name.startswith(("strto", "ato")) else 0
     if shape.name.startswith("modf"):
         was_set = bits_of(shape.gives,
                           (ctypes.c_double if shape.gives == "d" else ctypes.c_float).from_buffer(place).value)

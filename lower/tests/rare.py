@@ -1,5 +1,8 @@
 """What programs use now and then of C and POSIX, beside the machine's own library: options with names, the environment,
 random numbers of 48 bits, paths, names with numbers, arrays, messages, signals, locks, and what the system is asked."""
+import ctypes
+import struct
+
 from .calls import Calls, batch, native_fault
 from .running import Results, Running, differ
 from .telling import OPTION_LETTER, TELL
@@ -374,6 +377,34 @@ def locks(calls: Calls) -> None:
     calls.word("pthread_cond_signal", f"l {calls.room(48)}")
 
 
+def other_locks(calls: Calls) -> None:
+    """Locks for readers and a writer, spin locks and semaphores, as far as they don't wait."""
+    lock, spin, semaphore, value = calls.room(56), calls.room(4), calls.room(32), calls.room(4)
+    calls.word("pthread_rwlock_init", f"l {lock}", "l 0")
+    for name in ("tryrdlock", "rdlock", "trywrlock", "unlock", "trywrlock", "unlock", "trywrlock", "trywrlock",
+                 "wrlock", "rdlock", "tryrdlock", "unlock", "rdlock", "unlock", "wrlock", "unlock", "destroy"):
+        calls.word(f"pthread_rwlock_{name}", f"l {lock}")
+    calls.word("pthread_spin_init", f"l {spin}", "w 0")
+    for name in ("lock", "trylock", "unlock", "trylock", "unlock", "destroy"):
+        calls.word(f"pthread_spin_{name}", f"l {spin}")
+    for first in (0, 2, 0x7FFFFFFF, 0x80000000):
+        calls.word("sem_init", f"l {semaphore}", "w 0", f"w {first}")
+        calls.error()
+        for name in ("post", "trywait", "trywait", "post", "wait", "trywait", "trywait", "trywait", "post"):
+            calls.word(f"sem_{name}", f"l {semaphore}")
+            calls.error()
+            calls.word("sem_getvalue", f"l {semaphore}", f"l {value}")
+            calls.bytes(value, 4)
+    calls.word("sem_destroy", f"l {semaphore}")
+    attributes = calls.room(56)
+    calls.word("pthread_attr_init", f"l {attributes}")
+    for name, arguments in (("setdetachstate", (0, 1, 2, -1)), ("setstacksize", (0, 16383, 16384, 1 << 20))):
+        for argument in arguments:
+            cls = "l" if name == "setstacksize" else "w"
+            calls.word(f"pthread_attr_{name}", f"l {attributes}", f"{cls} {argument}")
+    calls.word("pthread_attr_destroy", f"l {attributes}")
+
+
 def locks_of_c(calls: Calls) -> None:
     calls.functions += RUNS_ONCE
     for kind in (0, 1):
@@ -404,8 +435,118 @@ def locks_of_c(calls: Calls) -> None:
     calls.plain("thrd_yield")
 
 
-GROUPS = {"options": options, "environment": environment, "numbers": numbers, "texts": texts, "kinds": kinds,
-          "arrays": arrays, "signals": signals, "locks": locks, "locks of C": locks_of_c}
+# Trees, lists, streams, and functions that are made of others.
+
+IN_TREES = """
+function w $in.order(l %a, l %b) {
+@start
+	%x =w loadw %a
+	%y =w loadw %b
+	%r =w sub %x, %y
+	ret %r
+}
+function $visit(l %node, w %when, w %depth) {
+@start
+	%low =w sub %when, 1
+	%is.first =w culew %low, 0
+	%is.leaf =w ceqw %when, 3
+	%is.wanted =w or %is.first, %is.leaf
+	jnz %is.wanted, @wanted, @end
+@wanted
+	%key =l loadl %node
+	%number =w loadw %key
+	call $tell.w(w %number)
+@end
+	ret
+}
+function $given.back(l %key) {
+@start
+	%count =w loadw $given.back.count
+	%count =w add %count, 1
+	storew %count, $given.back.count
+	ret
+}
+data $given.back.count = { w 0 }
+"""
+
+
+def trees(calls: Calls) -> None:
+    """Keys go in, are found and go out, in a random order; a walk tells them in theirs."""
+    calls.functions += IN_TREES
+    choice = calls.choice
+    for count in (0, 1, 2, 7, 20):
+        root = calls.room(0, "l 0")
+        numbers_in = [choice.randrange(30) for _ in range(count)]
+        keys = {number: calls.room(0, f"w {number}") for number in range(-1, 31)}
+        for number in numbers_in:
+            node = calls.call("tsearch", "l", f"l {keys[number]}", f"l {root}", "l $in.order")
+            calls.kept(keys[number], node)
+        for number in [*numbers_in[:5], -1, 30, 15]:
+            calls.truth_of("tfind", f"l {keys[number]}", f"l {root}", "l $in.order")
+        for number in [*choice.sample(numbers_in, len(numbers_in) // 2), -1, *numbers_in[:2]]:
+            calls.truth_of("tdelete", f"l {keys[number]}", f"l {root}", "l $in.order")
+            calls.line(f"%n{calls.named()} =l loadl {root}")
+            calls.plain("twalk", f"l %n{calls.made}", "l $visit")
+        calls.line(f"%n{calls.named()} =l loadl {root}")
+        calls.plain("tdestroy", f"l %n{calls.made}", "l $given.back")
+        calls.bytes("$given.back.count", 4)
+    for name in ("tsearch", "tfind", "tdelete"):
+        calls.truth_of(name, f"l {calls.room(8)}", "l 0", "l $in.order")
+    calls.plain("twalk", "l 0", "l $visit")
+
+
+def lists(calls: Calls) -> None:
+    elements = [calls.room(16, "l 7 7") for _ in range(4)]
+    calls.plain("insque", f"l {elements[0]}", "l 0")
+    for one, before in ((1, 0), (2, 0), (3, 1)):
+        calls.plain("insque", f"l {elements[one]}", f"l {elements[before]}")
+    for removed in (None, 2, 3, 0):
+        if removed is not None:
+            calls.plain("remque", f"l {elements[removed]}")
+        for element in elements:
+            for offset in (0, 8):
+                calls.line(f"%p{calls.named()} =l add {element}, {offset}")
+                calls.line(f"%q{calls.made} =l loadl %p{calls.made}")
+                for number, other in enumerate(elements):
+                    calls.line(f"%e{calls.made}.{number} =w ceql %q{calls.made}, {other}")
+                    calls.plain("tell.w", f"w %e{calls.made}.{number}")
+
+
+def made_of_others(calls: Calls) -> None:
+    """sincos gives what sin and cos do, and lgamma_r what lgamma does; streams have buffers and locks."""
+    choice = calls.choice
+    for cls, end, size in (("d", "", 8), ("s", "f", 4)):
+        sine, cosine = calls.room(size), calls.room(size)
+        for x in (0.0, -0.5, 1.0, 3.0, 100.5, -7.25, choice.randrange(1000) / 8):
+            calls.plain(f"sincos{end}", f"{cls} {cls}_{x}", f"l {sine}", f"l {cosine}")
+            calls.plain(f"lgamma{end}_r" if not end else "lgammaf_r", f"{cls} {cls}_{x}", f"l {calls.room(4)}")
+            for name, place in (("sin", sine), ("cos", cosine)):
+                number = calls.call(name + end, cls, f"{cls} {cls}_{x}")
+                calls.line(f"%o{number[1:]} ={cls} load{cls} {place}")
+                calls.line(f"%s{number[1:]} =w ceq{cls} {number}, %o{number[1:]}")
+                calls.plain("tell.w", f"w %s{number[1:]}")
+            if x != 0:
+                sign = calls.room(4)
+                number = calls.call("lgammaf_r" if end else "lgamma_r", cls, f"{cls} {cls}_{x}", f"l {sign}")
+                calls.bytes(sign, 4)
+                other = calls.call(f"gamma{end}", cls, f"{cls} {cls}_{x}")
+                calls.line(f"%s{number[1:]} =w ceq{cls} {number}, {other}")
+                calls.plain("tell.w", f"w %s{number[1:]}")
+    for x in (0.5, 1.5, 2.5, -0.5, -1.5, 1e300, 0.49999999999999994):
+        number = calls.call("roundeven", "d", f"d d_{x!r}")
+        calls.line(f"%b{number[1:]} =l cast {number}")
+        calls.plain("tell", f"l %b{number[1:]}")
+    stream = f"%f{calls.named()}"
+    calls.line(f"{stream} =l loadl $stdout")
+    for name in ("flockfile", "setlinebuf", "funlockfile"):
+        calls.plain(name, f"l {stream}")
+    calls.word("ftrylockfile", f"l {stream}")
+    calls.long("__ctype_get_mb_cur_max")
+
+
+GROUPS = {"trees": trees, "lists": lists, "made of others": made_of_others, "options": options,
+          "environment": environment, "numbers": numbers, "texts": texts, "kinds": kinds, "arrays": arrays,
+          "signals": signals, "locks": locks, "other locks": other_locks, "locks of C": locks_of_c}
 
 
 # What has no equal in native code: the answers of a system that isn't there.
@@ -423,9 +564,68 @@ def alone(calls: Calls) -> None:
     calls.said("tmpnam", f"l {calls.room(20)}")
     calls.word("pthread_create", "l 0", "l 0", "l 0", "l 0")
     calls.said("getenv", f"l {calls.text(b'PATH')}")
+    times = calls.room(0, "l -1 -1 -1 -1, z 120")
+    calls.word("getrusage", "w 0", f"l {times}")
+    calls.bytes(times, 16)
+    calls.word("getrusage", "w 2", f"l {times}")
+    calls.long("times", f"l {times}")
+    calls.word("clock_getres", "w 0", f"l {times}")
+    calls.bytes(times, 16)
+    calls.word("pthread_join", "l 1", "l 0")
+    calls.word("pthread_detach", "l 1")
+    calls.word("alarm", "w 5")
+    calls.word("sched_yield")
+    calls.word("gettid")
 
 
-ALONE_OUTPUT = "0 0 0 0 0 0 1 0 0 0 0 -1 [/tmp/file000000] [/tmp/file000001] 11 none "
+ALONE_OUTPUT = ("0 0 0 0 0 0 1 0 0 0 0 -1 [/tmp/file000000] [/tmp/file000001] 11 none "
+                f"0 {'00' * 16} -1 0 0 {'00' * 8}01{'00' * 7} 3 3 0 0 1 ")
+
+
+# Powers of ten, as Python reads their decimals.
+
+def powers_fault(running: Running) -> str | None:
+    wholes = [*range(-330, 312, 7), *range(-3, 25)]
+    lines, wanted = ["export function w $main() {", "@start"], []
+    library = ctypes.CDLL(None)
+    library.strtof.restype = ctypes.c_float
+    for index, whole in enumerate(wholes):
+        lines += [f"\t%d{index} =d call $exp10(d d_{whole})", f"\t%l{index} =l cast %d{index}",
+                  f"\tcall $tell(l %l{index})", f"\t%s{index} =s call $exp10f(s s_{whole})",
+                  f"\t%w{index} =w cast %s{index}", f"\tcall $tell.w(w %w{index})"]
+        single = library.strtof(f"1e{whole}".encode(), None)
+        wanted += [struct.unpack("<q", struct.pack("<d", float(f"1e{whole}")))[0],
+                   struct.unpack("<i", struct.pack("<f", single))[0]]
+    lowered = running.lower_here(TELL + "\n".join(lines + ["\tret 0", "}"]) + "\n")
+    return lowered if isinstance(lowered, str) else \
+        differ("powers", wanted, [int(word) for word in running.run(lowered.text).output.split()])
+
+
+# A line of the input without bounds.
+GETS = """
+data $line = { z 64 }
+data $form = { b "[%s]", b 0 }
+export function w $main() {
+@start
+	%told =l call $gets(l $line)
+	%is.line =w ceql %told, $line
+	jnz %is.line, @line, @end
+@line
+	%p =w call $printf(l $form, ..., l $line)
+	jmp @start.again
+@start.again
+	%told =l call $gets(l $line)
+	%is.line =w ceql %told, $line
+	jnz %is.line, @line, @end
+@end
+	ret 0
+}
+"""
+
+
+def gets_fault(running: Running) -> str | None:
+    lowered = running.lower({"a.ssa": GETS}, "--link", "--input", "input", beside={"input": "one\n\nlast"})
+    return differ("errors", "", lowered.errors) or differ("output", "[one][][last]", running.run(lowered.text).output)
 
 
 def alone_fault(running: Running) -> str | None:
@@ -530,6 +730,8 @@ def results(running: Running) -> Results:
         ending(calls, name)
         yield f"rare/{name}", native_fault(running, calls.written())
     yield "rare/alone", alone_fault(running)
+    yield "rare/powers of ten", powers_fault(running)
+    yield "rare/gets", gets_fault(running)
     for name in ("verr", "verrx"):
         yield f"rare/{name}", lists_fault(running, name)
     yield "rare/a program's own error", own_error_fault(running)

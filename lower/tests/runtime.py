@@ -437,10 +437,16 @@ FAULTS = [
     ("%p =l alloc16 32\n%q =l add %p, 16\ncall $free(l %q)", "$free.of.no.block.in.use @start 0"),
     ("call $abort()", "$abort @start 0"),
     ("%r =w call $printf(l $n, ..., l 0)", "$printf.has.no.such.conversion @start 0"),
+    ("%r =w call $wprintf(l $wide, ..., l 0)", "$printf.has.no.such.conversion @start 0"),
     ("%r =w call $printf(l $long, ..., l 0)", "$printf.has.no.long.double @start 0"),
     ("call $rt.abort_fixed(l $path, l 1, l 2, l 3)", "$rt.abort_fixed @start 3"),
 ]
-FAULT_DATA = 'data $n = { b "%n\\0" }\ndata $long = { b "%Lf\\0" }\ndata $path = { l $n 2 2 }\n'
+# The wide text is `%n`.
+FAULT_DATA = """data $n = { b "%k\\0" }
+data $wide = { w 37 110 0 }
+data $long = { b "%Lf\\0" }
+data $path = { l $n 2 2 }
+"""
 
 
 def fault_fault(running: Running, body: str, place: str) -> str | None:

@@ -42,7 +42,8 @@ def conversion(choice: random.Random) -> tuple[str, str, bool]:
         body, text = choice.choice(("n", "hn", "ln", "hhn")), ""
         dropped = False
     else:
-        body, text = choice.choice(("s", "c", *SETS)), choice.choice(WORDS)
+        # With an `l` the places take wide characters.
+        body, text = choice.choice(("", "", "l")) + choice.choice(("s", "c", *SETS)), choice.choice(WORDS)
     return body, text, not dropped
 
 
@@ -53,6 +54,8 @@ def made(choice: random.Random) -> Case:
         # A text without a width would leave its place.
         is_text = body[-1] in "sc]"
         widths = ("3", "10", "20") if is_text and body != "c" else ("", "", "1", "3", "10")
+        if is_text and body[0] == "l":
+            widths = ("1", "3", "5")
         if choice.random() < 0.1:
             near = choice.choice(NUMBERS + FLOATS + WORDS)
         gap = choice.choice(BETWEEN)

@@ -59,6 +59,15 @@ def table_fault(running: Running, argument: str, status: int, end: str | None) -
         differ("lines of the map", lowered.text.count("\n"), lowered.map.count("\n"))
 
 
+READS = """
+export function w $main() {
+@start
+	%byte =w call $getchar()
+	ret %byte
+}
+"""
+
+
 def fault_of(running: Running, text: str, functions: int, told: str, output: str) -> str | None:
     lowered = running.lower({"a.ssa": text}, "--link", "--report")
     run = running.run(lowered.text)
@@ -84,3 +93,6 @@ def results(running: Running) -> Results:
     yield "sizes/too large all the same", differ("status", 1, lowered.status) or \
         differ("told", (True, True), ("bytes, and qrev takes at most 1048576" in lowered.errors,
                                       " of a.ssa" in lowered.errors))
+    lowered = running.lower({"a.ssa": READS}, "--link", "--input", "input", beside={"input": "x" * 1_100_000})
+    told = "\nqrev-lower: input, which it reads, has 1100000 bytes, and is part of its data\n"
+    yield "sizes/too much input", differ("end", (1, True), (lowered.status, lowered.errors.endswith(told)))
