@@ -10,7 +10,7 @@ from terminal.launching import split_words
 
 SIDES = ("good", "bad")
 # The events that are compared if nothing is said, and what a side has in place of one.
-DEFAULT, NO_EVENT = ("output", "calls", "end"), ("none", "limit", "memory")
+DEFAULT, NO_EVENT = ("output", "calls", "end"), ("none", "limit")
 EVENT, STEP = re.compile(r"^(good|bad): (.*)$"), re.compile(r"^step (\d+)$")
 # Options of the comparison alone, which a session of one side doesn't have.
 OWN = ("--events", "--session")
@@ -29,7 +29,7 @@ class Pair:
     @property
     def is_told(self) -> bool:
         """Whether both texts ran, so that there is something to show."""
-        return self.head.split(" ")[0] in ("same", "part", "limit", "memory")
+        return self.head.split(" ")[0] in ("same", "part", "limit")
 
     @property
     def number(self) -> int | None:

@@ -25,6 +25,8 @@ MOST_BYTES_ASKED = 48
 MOST_STORES, MOST_SITES = 4_000, 240
 # What copies bytes from its second argument to its first.
 COPYING = frozenset(("memcpy", "memmove", "strcpy", "strncpy", "stpcpy"))
+# Functions of the runtime that write bytes as they lie in memory, and which argument has their address.
+WRITING = {"$puts.counted": 1, "$fputs": 1, "$fwrite": 1, "$write": 2}
 # The temporaries that qrev-lower makes of cells, and how many of them are shown.
 CELLS, MOST_CELLS = "%.cells.", 16
 WIDTHS = {1: "b", 2: "h", 4: "w", 8: "l"}
@@ -523,19 +525,27 @@ class Causes:
         before = int(self.scratch.go(there).ask("out")[0][0].split(" ")[1])
         shown = shown_bytes(written[number:number + 1])
         call, callee = self.call_in_own(there)
+        told = f"byte {number} of the output, {written[number]} ({shown}), was written by"
         if callee:
-            return self.executed(call,
-                                 f"byte {number} of the output, {written[number]} ({shown}), was written by {callee}, "
-                                 "called at")
-        cause = self.executed(there, f"byte {number} of the output, {written[number]} ({shown}), was written by")
+            cause = self.executed(call, f"{told} {callee}, called at")
+            if callee in WRITING:
+                before = int(self.scratch.go(call).ask("out")[0][0].split(" ")[1])
+                self.ask_for_byte(cause, call, WRITING[callee], number - before, written[number])
+            return cause
+        cause = self.executed(there, told)
         _, instruction = self.innermost(there)
         if self.operand_value(instruction.operands[0].text, there) == BUILT_IN["$puts"]:
-            address = self.value_read(instruction.operands[1].text, there) + number - before
-            byte = self.scratch.go(there).memory(address, 1)[0]
-            if byte:
-                cause.questions.insert(0, self.memory(address, 1, there))
-                cause.lines.append(ASKED)
+            self.ask_for_byte(cause, there, 1, number - before, written[number])
         return cause
+
+    def ask_for_byte(self, cause: Cause, call: Timeline, index: int, offset: int, written: int) -> None:
+        """Asks first for a byte that a call wrote as it lies behind the address in an argument. A newline that it adds
+        lies nowhere."""
+        _, instruction = self.innermost(call)
+        address = self.value_read(instruction.operands[index].text, call) + offset
+        if self.scratch.go(call).memory(address, 1)[0] == written:
+            cause.questions.insert(0, self.memory(address, 1, call))
+            cause.lines.append(ASKED)
 
     # Memory.
 

@@ -60,15 +60,21 @@ def cause_of(shell: Shell, event: str) -> Cause | None:
     return shell.causes.executed(at, f"{event}, at #{at.position + 1}, comes of")
 
 
-def begin(sides: dict[str, Shell], pair: Pair) -> None:
-    """Tells both sides with the lines of their texts, and what the event of the bad one comes of."""
+def begin(sides: dict[str, Shell], pair: Pair, is_blaming: bool) -> None:
+    """Tells both sides with the lines of their texts, and what the event of the bad one comes of, or by which
+    instruction they part."""
     bad = sides["bad"]
     bad.say(pair.head)
     for side, shell in sides.items():
         event = pair.events.get(side, "")
         lead(shell, event, pair.positions[side])
+        shell.is_good = side == "good"
+        shell.parted = shell.session.timeline if cause_of(shell, event) else None
         bad.say(f"{side}: {event}")
         shell.show()
+    if is_blaming:
+        bad.do("blame")
+        return
     cause = cause_of(bad, pair.events["bad"])
     if cause:
         bad.chain = [cause]
@@ -76,9 +82,9 @@ def begin(sides: dict[str, Shell], pair: Pair) -> None:
     bad.say("this is the bad run, before that move; `other` goes to the good one, `why N` asks on")
 
 
-def held(debugger: str, program: str, given: Sequence[str], named: Sequence[str]) -> int:
-    """Compares two texts, and holds a session where they part; the status of the comparison. The texts are named
-    otherwise where they were lowered first."""
+def held(debugger: str, program: str, given: Sequence[str], named: Sequence[str], is_blaming: bool) -> int:
+    """Compares two texts, and holds a session where they part, or tells by which instruction; the status of the
+    comparison. The texts are named otherwise where they were lowered first."""
     files, words = two_files(given)
     for file in filter(None, files):
         # One that can't be read is told by its name.
@@ -98,7 +104,9 @@ def held(debugger: str, program: str, given: Sequence[str], named: Sequence[str]
                     return pair.status
             sides["good"].other, sides["bad"].other = sides["bad"], sides["good"]
             waiting.install()
-            begin(sides, pair)
+            begin(sides, pair, is_blaming)
+            if is_blaming:
+                return pair.status
             prompt = Prompt(sides["bad"], sys.stdin.isatty(),
                             {id(shell): f"({side}) " for side, shell in sides.items()})
             prompt.install()

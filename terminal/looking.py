@@ -208,8 +208,8 @@ def select(shell: Shell, index: int) -> None:
     place = frames[index]
     shell.say(f"frame {index} {place.function} {place.label} {place.index}")
     if index:
-        line = shell.session.program.line_of(place.function, place.label, place.index - 1)
-        shell.say(*shell.screen.text_lines(line - 2, line + 2, line, []))
+        # It stands behind its call.
+        shell.say(*shell.screen.place_lines(Place(0, place.function, place.label, place.index - 1)))
     else:
         shell.say(*shell.screen.place_lines())
 
@@ -434,7 +434,7 @@ TOPICS = {
     "look": "print x display undisplay bt up down frame temps list search reverse-search disas mem find whatis out "
             "info",
     "stop": "break tbreak watch ignore condition commands disable enable stops delete",
-    "ask": "suspects made why path calls readers writers when counts compare",
+    "ask": "suspects made why path calls readers writers when counts compare blame",
     "change": "set poke",
     "session": "tui save source other help quit",
 }

@@ -24,6 +24,8 @@ CHECK = pathlib.Path(__file__).resolve().parent.parent / "check" / "main"
 MOST, FAR = 50_000, 100_000_000
 # How long a session waits for all that at most, in seconds: at the end of a run and at causes, all together.
 PATIENCE = 1.0
+# How long it waits when that is over: a wait of no time wouldn't even read what a check that has ended wrote.
+LEAST = 0.02
 # A suspicion: the position of the first move that is one at its place, and what is told of it.
 SUSPICION = re.compile(r"^#(\d+) .*\n  (.*)$", re.MULTILINE)
 
@@ -43,7 +45,7 @@ class Check:
         """The suspicions, by position; None if they aren't known in time."""
         if self.found is None:
             try:
-                written, _ = self.process.communicate(timeout=seconds)
+                written, _ = self.process.communicate(timeout=max(seconds, LEAST))
             except subprocess.TimeoutExpired:
                 return None
             self.found = {}

@@ -43,7 +43,7 @@ class Output(Protocol):
 
 def is_plain(stream: TextIO | None = None) -> bool:
     """Whether a stream is no terminal, or one that knows no more than lines."""
-    return not (stream or sys.stdout).isatty() or os.environ.get("TERM", "dumb") == "dumb"
+    return not (stream or sys.stdout).isatty() or (os.environ.get("TERM") or "dumb") == "dumb"
 
 
 def words_of(text: str) -> Iterator[tuple[str, str]]:

@@ -140,8 +140,11 @@ class Shell:
         # from.
         self.gathering: list[str] | None = None
         self.nested = 0
-        # The session of the other text, where two are compared.
+        # Where two texts are compared: the session of the other one, which of them this is, and the state before the
+        # move by which the runs part, if a move does.
         self.other: Shell | None = None
+        self.is_good = False
+        self.parted: Timeline | None = None
 
     # What is said.
 

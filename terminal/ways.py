@@ -68,7 +68,7 @@ def last_call(shell: Shell, name: str, at: Timeline) -> Timeline:
     return at.at(hit.position)
 
 
-def blocks_of(shell: Shell, function: Function, at: Timeline) -> list[tuple[int, str]]:
+def blocks_of(shell: Shell, function: Function, at: Timeline, most: int = MOST_BLOCKS) -> list[tuple[int, str]]:
     """The blocks through which a call went, each with the position at which it was entered, the first one first; of a
     long way the last ones."""
     labels = list(function.blocks)
@@ -81,11 +81,11 @@ def blocks_of(shell: Shell, function: Function, at: Timeline) -> list[tuple[int,
     for first in range(0, len(labels), size):
         places = [(label, 0) for label in labels[first:first + size]]
         hits = list(islice(own_hits(shell.session.program, shell.session.scratch, at, function.name, places),
-                           MOST_BLOCKS))
+                           most))
         found.update((position, place[0]) for position, place in hits)
-        low = max(low, hits[-1][0]) if len(hits) == MOST_BLOCKS else low
+        low = max(low, hits[-1][0]) if len(hits) == most else low
     # Behind a poke, a state stands at the place of the one before.
-    return sorted(each for each in found if each[0] >= low and not at.poke_at(each[0] - 1))[-MOST_BLOCKS:]
+    return sorted(each for each in found if each[0] >= low and not at.poke_at(each[0] - 1))[-most:]
 
 
 def folded(labels: Sequence[str]) -> list[tuple[list[str], int]]:

@@ -5,6 +5,7 @@ Each gives what is wrong, or None.
 from __future__ import annotations
 
 import pathlib
+import re
 import subprocess
 import sys
 import tempfile
@@ -101,6 +102,69 @@ def parted_lowered(program: str) -> str | None:
             shown.close()
 
 
+# Mistakes of a compiler, each in a text of examples/ with its arguments: a line, what stands there, and what was made
+# of it. `blame` should end at that line of both texts. Another operation, operands in another order, another constant,
+# labels that changed places, a fault, a loop that goes on too long, a value that is never set.
+PLANTED = (("squares", (), 11, "cslew", "csltw"), ("squares", (), 39, "%i, 1", "%i, 2"),
+           ("squares", (), 33, "@body, @end", "@end, @body"), ("account", (), 18, "add", "sub"),
+           ("account", (), 28, "%i, 3", "%i, 4"), ("account", (), 32, "add", "sub"),
+           ("transpose", (), 27, "%column, 2", "%column, 3"), ("transpose", (), 22, "add", "sub"),
+           ("transpose", (), 12, "csltw", "cslew"), ("primes", (), 16, "10", "11"),
+           ("primes", (), 57, "add", "sub"), ("largest", (), 26, "%i, 1", "%i, 2"),
+           ("largest", (), 13, "csltw", "cslew"), ("months", (), 6, "ceqw", "cnew"),
+           ("months", (), 13, "@april, @other", "@other, @april"),
+           ("checksum", (), 38, "@body, @end", "@end, @body"),
+           ("checksum", (), 78, "add", "sub"), ("digits", (), 18, "10", "11"), ("queens", (), 62, "%row, 6", "%row, 7"),
+           ("queens", (), 72, "csltw", "cslew"), ("strayed", (), 10, "4", "8"))
+
+
+# Of three stores that of the second round goes to where the result is read.
+STRAYED = ("data $a = { w 1, w 2, w 3, w 4 }\nexport function w $main() {\n@start\n\tjmp @loop\n@loop\n"
+           "\t%i =l phi @start 0, @body %n\n\t%c =w cultl %i, 3\n\tjnz %c, @body, @end\n@body\n"
+           "\t%o =l mul %i, 4\n\t%p =l add $a, %o\n\tstorew 7, %p\n\t%n =l add %i, 1\n\tjmp @loop\n@end\n"
+           "\t%q =l add $a, 4\n\t%x =w loadw %q\n\tret %x\n}\n")
+
+
+def blamed(program: str, example: str, words: tuple[str, ...], line: int, old: str, new: str) -> str | None:
+    """A mistake in one line is found: `blame` ends at that line, in both texts."""
+    text = STRAYED if example == "strayed" else (EXAMPLES / f"{example}.ssa").read_text()
+    lines = text.split("\n")
+    if lines[line - 1].count(old) != 1:
+        return f"line {line} of {example} has no {old}"
+    lines[line - 1] = lines[line - 1].replace(old, new)
+    with tempfile.TemporaryDirectory(prefix="compared-") as folder:
+        good, bad = (pathlib.Path(folder) / f"{side}.ssa" for side in ("good", "bad"))
+        good.write_text(text)
+        bad.write_text("\n".join(lines))
+        shown = Compared(program, str(good), str(bad), *words)
+        try:
+            shown.wait_for(BAD)
+            told = shown.do("blame", BAD)
+            ends = re.findall(r"^  (good|bad): #\d+ .*line (\d+): ", told.replace("\r", ""), re.MULTILINE)
+            return None if ends[-2:] == [("good", str(line)), ("bad", str(line))] else f"{told!r} names other lines"
+        finally:
+            shown.close()
+
+
+def blamed_at(planted: tuple[str, tuple[str, ...], int, str, str], program: str) -> str | None:
+    return blamed(program, *planted)
+
+
+def told_blame(program: str) -> str | None:
+    """`--blame` tells the instruction without a terminal, with the status of the comparison, and lowers texts of whole
+    QBE by itself."""
+    with tempfile.TemporaryDirectory(prefix="compared-") as folder:
+        bad = pathlib.Path(folder) / "bad.ssa"
+        bad.write_text(SUM.read_text().replace("storew 4, %item.8", "storew 5, %item.8"))
+        run, same = (subprocess.run([str(TOP / "qrev-compare"), "--blame", str(SUM), str(text)], capture_output=True,
+                                    text=True, stdin=subprocess.DEVNULL) for text in (bad, SUM))
+        last = re.findall(r"^  (good|bad): #\d+ \$main .*: storew (\d), %item.8  \(", run.stdout, re.MULTILINE)
+        fault = lacking(same.stdout, "same ") or (None if same.returncode == SAME else "same texts have another status")
+        if last != [("good", "4"), ("bad", "5")] or run.returncode != PART:
+            return f"{run.stdout!r} {run.stderr!r} {run.returncode}"
+        return fault
+
+
 def not_parted(program: str) -> str | None:
     """Where nothing parts, or a text is refused or missing, all is as without a terminal, and there is no prompt."""
     with tempfile.TemporaryDirectory(prefix="compared-") as folder:
@@ -121,4 +185,5 @@ def not_parted(program: str) -> str | None:
     return None
 
 
-COMPARISONS = {"parted": parted, "end": parted_at_end, "lowered": parted_lowered, "same": not_parted}
+COMPARISONS = {"parted": parted, "end": parted_at_end, "lowered": parted_lowered, "same": not_parted,
+               "blame": told_blame}

@@ -1,11 +1,16 @@
-"""Suspicions in a long run: after the first moves the fast pass finds them, at the prompt and at the end of the run."""
+"""Suspicions in a long run: after the first moves the fast pass finds them, at the prompt and at the end of the run.
+And how long the check beside a session is waited for."""
 from __future__ import annotations
 
+import os
 import pathlib
+import subprocess
+import sys
 import tempfile
+import time
 from typing import Callable
 
-from terminal.lookout import Lookout
+from terminal.lookout import PATIENCE, Check, Lookout
 from terminal.scratch import Launch
 from terminal.timeline import Timeline
 
@@ -97,7 +102,47 @@ def looked_out_for(program: str, file: str) -> str | None:
     return None if (found, told) == wanted else f"{found}, {told} in place of {wanted}"
 
 
+def patient(_program: str) -> str | None:
+    """A check that takes long is waited for once, and not at each cause."""
+    lookout = object.__new__(Lookout)
+    lookout.near, lookout.far, lookout.patience = object.__new__(Check), None, PATIENCE
+    lookout.near.process = subprocess.Popen([sys.executable, "-c", "import time; time.sleep(60)"],
+                                            stdout=subprocess.PIPE, text=True)
+    lookout.near.found = None
+    begun = time.monotonic()
+    try:
+        found = [lookout.suspicions(Timeline(1)) for _ in range(10)]
+    finally:
+        lookout.close()
+    taken = time.monotonic() - begun
+    return None if taken < 5 * PATIENCE and not any(found) else f"ten causes wait for {taken:.1f} seconds: {found}"
+
+
+def late(_program: str) -> str | None:
+    """What a check found is told once it has ended, also if that took longer than it is waited for."""
+    lookout = object.__new__(Lookout)
+    lookout.near, lookout.far, lookout.patience = object.__new__(Check), None, 0.1
+    held, let_go = os.pipe()
+    lookout.near.process = process = subprocess.Popen(
+        [sys.executable, "-c", "import sys; sys.stdin.read(); print('#1 $f @b 0\\n  bounds: a store')"],
+        stdin=held, stdout=subprocess.PIPE, text=True)
+    lookout.near.found = None
+    os.close(held)
+    try:
+        before = lookout.suspicions(Timeline(1))
+        os.close(let_go)
+        end = time.monotonic() + 60
+        while process.poll() is None and time.monotonic() < end:
+            time.sleep(0.01)
+        after = lookout.suspicions(Timeline(1))
+    finally:
+        lookout.close()
+    return None if (before, after) == ({}, {1: ["bounds: a store"]}) else f"before {before}, and after its end {after}"
+
+
 FARTHER = {"lists a late suspicion": lambda program: in_late(program, listed),
            "lists a late use of unset bits": lambda program: in_late(program, listed_of_bits, UNSET),
            "knows that there is none": lambda program: in_late(program, cleared, BEHIND.replace("$a, 8", "$a, 0")),
-           "knows a late suspicion at the end": lambda program: in_late(program, looked_out_for)}
+           "knows a late suspicion at the end": lambda program: in_late(program, looked_out_for),
+           "waits once for a check": patient,
+           "tells what a late check found": late}

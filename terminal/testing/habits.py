@@ -17,10 +17,8 @@ from types import SimpleNamespace
 from typing import Any, Callable
 
 from terminal import tui
-from terminal.lookout import PATIENCE, Check, Lookout
 from terminal.scratch import Launch
 from terminal.shell import FAULT, Shell
-from terminal.timeline import Timeline
 from terminal.waiting import Interrupted, Waiting
 
 from .harness import FOLDER, PROMPT, TOP, Held, Silent, Terminal, last_place
@@ -580,22 +578,6 @@ def long_named(program: str) -> str | None:
     return f"{shown!r}" if FAULT in shown else missing(shown, "#1 $main @start 1", "#2 $main @end 0", "#3 done 1")
 
 
-def patient(_program: str) -> str | None:
-    """A check that takes long is waited for once, and not at each cause."""
-    lookout = object.__new__(Lookout)
-    lookout.near, lookout.far, lookout.patience = object.__new__(Check), None, PATIENCE
-    lookout.near.process = subprocess.Popen([sys.executable, "-c", "import time; time.sleep(60)"],
-                                            stdout=subprocess.PIPE, text=True)
-    lookout.near.found = None
-    begun = time.monotonic()
-    try:
-        found = [lookout.suspicions(Timeline(1)) for _ in range(10)]
-    finally:
-        lookout.close()
-    taken = time.monotonic() - begun
-    return None if taken < 5 * PATIENCE and not any(found) else f"ten causes wait for {taken:.1f} seconds: {found}"
-
-
 def deep(program: str) -> str | None:
     """Far inside calls an address is named by its frame, callers are looked at, and no stop takes long for it."""
     with tempfile.TemporaryDirectory(prefix="deep-") as folder:
@@ -771,7 +753,7 @@ def stops_kept(program: str) -> str | None:
 
 HABITS = {call.__name__.replace("_", " "): call for call in (
     interrupted, interrupted_at_the_prompt, left, completed, bad_lines, refused, broken,
-    narrow, without_readline, wrapped, memory_told, bounded, fast, followed, suspected, patient, looked_at,
+    narrow, without_readline, wrapped, memory_told, bounded, fast, followed, suspected, looked_at,
     shown_at_last, drawn_at_last, closed, gone, long_named, gone_round, far, deep, saved_and_compared, stops_kept,
     mapped, lowered, bare)}
 

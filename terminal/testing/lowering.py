@@ -346,7 +346,9 @@ PLACES_LINES: Lines = [
     ("list 9", ["  9      return a;"]), ("list $twice", ["function w $twice(w %x) {"]),
     ("list other.c:1", ["isn't found"]), ("b p.c:7", ["break 1: $main @start 2"]),
     ("tbreak a.ssa:9", ["break 2: $twice @start 2"]), ("b none.c:1", ["the sources are: p.c"]),
-    ("c", ["stop: break 2", "#4 $twice @start 2", "a.ssa:9: p.c:3\n"]), ("c", ["stop: break 1", "#5 $main @start 2"]),
+    ("c", ["stop: break 2", "#4 $twice @start 2", "a.ssa:9: p.c:3\n"]),
+    ("up", ["frame 1 $main @start 2\n  source: a.ssa:15: p.c:6\n", "> 10 "]), ("down", ["frame 0 $twice @start 2\n"]),
+    ("c", ["stop: break 1", "#5 $main @start 2"]),
     ("d", []), ("next-line", ["#13 $main @start 4", "p.c:8\n"]), ("nl", ["#15 $main @start 6", "p.c:9\n"]),
     ("reverse-next-line", ["#13 $main @start 4"]), ("rnl", ["#5 $main @start 2", "p.c:7:5\n"]),
     ("rnl", ["#0 $main @start 0"]), ("step-line", ["#2 $twice @start 0", "p.c:2\n"]), ("sl", ["#4 $twice @start 2"]),
@@ -400,8 +402,36 @@ CONSTANTS_LINES: Lines = [
     ("why 1", ["%v =d loadd %p"]), ("why 1", ["stored d_2.5, %p"]), ("back", []), ("why w %q", ["stores s_0.1, %q"]),
 ]
 
-SESSIONS = {"constants": (CONSTANTS, CONSTANTS_LINES), "absent": (ABSENT, ABSENT_LINES),
-            "writes": (WRITES, WRITES_LINES), "freed": (FREED, FREED_LINES),
+# What writes bytes as they lie in memory: "a!c\n" by puts, "a!c" by fputs, "!c" by fwrite and by write, and "q".
+OUTPUT = """
+data $text = { b "abc", b 0 }
+export function w $main() {
+@start
+	%mark =l add $text, 1
+	storeb 33, %mark
+	%n =w call $puts(l $text)
+	%out =l loadl $stdout
+	%k =w call $fputs(l $text, l %out)
+	%w =l call $fwrite(l %mark, l 1, l 2, l %out)
+	%v =l call $write(w 1, l %mark, l 2)
+	%q =w call $putchar(w 113)
+	ret %n
+}
+"""
+STORED_MARK = ["stored by\n", "storeb 33, %mark"]
+OUTPUT_LINES: Lines = [
+    ("c", ["done 4"]), ("out", ['0  "a!c\\n"\n', '4  "a!c!c!cq"\n']),
+    ("why out 1", ["by $puts.counted, called at\n", '[1] b $text+1 = 33 ("!")\n  [2] the call of $main']),
+    ("why 1", STORED_MARK),
+    ("why out 3", ["by $puts.counted, called at\n", "[1] the call of $main"]),
+    ("why out 5", ["by $fputs, called at\n", "[1] b $text+1 = 33"]), ("why 1", STORED_MARK),
+    ("why out 7", ["by $fwrite, called at\n", "[1] b $text+1 = 33"]),
+    ("why out 10", ["by $write, called at\n", "[1] b $text+2 = 99"]), ("why 1", ["so since the start"]),
+    ("why out 11", ["call $putchar(w 113)"]),
+]
+
+SESSIONS = {"constants": (CONSTANTS, CONSTANTS_LINES), "output": (OUTPUT, OUTPUT_LINES),
+            "absent": (ABSENT, ABSENT_LINES), "writes": (WRITES, WRITES_LINES), "freed": (FREED, FREED_LINES),
             "nowhere": (NOWHERE, NOWHERE_LINES), "signal": (SIGNAL, SIGNAL_LINES),
             "floats": (FLOATS, FLOATS_LINES), "singles": (SINGLES, SINGLES_LINES), "called": (CALLED, CALLED_LINES),
             "chain of floats": (chain(OPERATIONS), CHAIN_LINES), "short names": (large(), LARGE_LINES),

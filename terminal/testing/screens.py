@@ -157,15 +157,15 @@ def no_screen(program: str) -> str | None:
 
 
 def coloured(program: str) -> str | None:
-    """Names and positions have colours, which NO_COLOR and `set style enabled off` switch off; the letters are the
-    same."""
+    """Names and positions have colours, which NO_COLOR, a TERM of nothing and `set style enabled off` switch off; the
+    letters are the same."""
     plain = Held(program, str(SQUARES))
     told = {}
     try:
         told["dumb"] = plain.told + plain.do("bt") + plain.do("goto 44") + plain.do("why %place")
     finally:
         plain.close()
-    environments: dict[str, dict[str, str]] = {"colours": {}, "none": {"NO_COLOR": "1"}}
+    environments: dict[str, dict[str, str]] = {"colours": {}, "none": {"NO_COLOR": "1"}, "no terminal": {"TERM": ""}}
     for name, environment in environments.items():
         session = Held(program, str(SQUARES), environment={"TERM": "xterm-256color", **environment})
         try:
@@ -179,6 +179,8 @@ def coloured(program: str) -> str | None:
     absent = [word for word in words if word not in told["colours"]]
     if absent:
         return f"{told['colours']!r} lacks {absent[0]!r}"
+    if "\x1b[" in told["no terminal"]:
+        return f"colours without a TERM: {told['no terminal']!r}"
     if "\x1b[3" in told["none"] or "\x1b[3" in told["off"].replace(session_told(told["colours"]), ""):
         return f"colours that are switched off: {told['none']!r}"
     return None if ESCAPES.sub("", told["colours"]) == ESCAPES.sub("", told["dumb"]) else \
