@@ -92,7 +92,7 @@ PLANTS = {
                                                         "            return None\n        return found", "map"),
     "a condition that nobody looks at": Plant("adapter.py", "if rule.condition and not is_true(",
                                               "if False and not is_true(", "conditions"),
-    "hits counted from one more": Plant("adapter.py", "len(before) + 1, self.hits", "len(before) + 2, self.hits",
+    "hits counted from one more": Plant("asked.py", "len(before) + 1, self.hits", "len(before) + 2, self.hits",
                                         "conditions"),
     "a message that stops the run": Plant("adapter.py", "log += self.log_of(rule.message)",
                                           "hits.append(one)\n                    log += self.log_of(rule.message)",

@@ -17,6 +17,7 @@ Where two compilations part, written from docs/COMPARE.md alone:
 And the debug adapter, written from docs/ADAPTER.md and docs/inside/REQUESTS.md alone:
 
     messages.py   messages in their frames
+    asked.py      what an editor asks: members of requests, what a breakpoint of it asks for
     launching.py  what the arguments of a launch say
     places.py     the line of a place, the place that a line means
     debuggee.py   a session that moves by lines of commands, each of which is kept; runs over calls

@@ -2,8 +2,9 @@
 from __future__ import annotations
 
 import collections
-from typing import TYPE_CHECKING, NamedTuple, Optional, Protocol, Union
+from typing import NamedTuple, Optional, Protocol, Union
 
+from .asked import Rule
 from .grammar import parse
 from .launching import Launch
 from .mapping import Origin, SourceMap
@@ -12,9 +13,6 @@ from .places import line_of, lines_of_code, place_from
 from .session import load
 from .shown import Free, told
 from .tokens import cut
-
-if TYPE_CHECKING:
-    from .adapter import Rule
 
 # A place: a function, a block and an instruction, by their numbers.
 Place = tuple[int, int, int]

@@ -4,6 +4,7 @@ from __future__ import annotations
 from collections.abc import Iterator
 from typing import TYPE_CHECKING, Any, Optional
 
+from .asked import Client
 from .expressions import Missing, Part, Value, float_of, is_float, bits_of, parse, signed
 from .expressions import Memory as MemoryPart, Named
 from .machine import Frame
@@ -13,7 +14,6 @@ from .session import WIDTHS
 from .tree import Data
 
 if TYPE_CHECKING:
-    from .adapter import Client
     from .debuggee import Debuggee
 
 MACHINE, DATA, OBJECTS, POINTED = 2**30, 2**30 + 1, 2**30 + 2, 2**28
