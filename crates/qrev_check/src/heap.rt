@@ -1,5 +1,7 @@
 //! The functions of a heap, as the last two words of the command line name them: `--heap ROLE=FUNCTION,..`.
 
+ghost use Rattle.std.specs.Prelude.{◌≡◌, [], IfOk, IsOk};
+
 use qil_code::Code;
 use qil_layout::FuncId;
 use qil_suspicions::HeapRole;
@@ -53,8 +55,8 @@ fn part_of<A: Allocator + Copy>(code: &Code<'_, A>, part: &[u8]) -> Option<(Func
     Some((code.func_named(function)?, role_of(role)?))
 }
 
-/// The functions of a heap, and what each of them does.
-pub fn heap_of<A: Allocator + Copy>(
+/// The functions of a heap, by the text that names some.
+fn heap_of<A: Allocator + Copy>(
     alloc: A,
     code: &Code<'_, A>,
     text: &[u8],
@@ -75,4 +77,19 @@ pub fn heap_of<A: Allocator + Copy>(
         }
     }
     Ok(heap)
+}
+
+/// The functions of a heap, and what each of them does; none for an empty text.
+pub fn heap_said<A: Allocator + Copy>(
+    alloc: A,
+    code: &Code<'_, A>,
+    text: &[u8],
+) -> Result<Vec<(FuncId, HeapRole), A>, NoHeap>
+    ensures none { text.now ≡ [] → IfOk result (λ heap. heap.items ≡ []) }
+    ensures ok { text.now ≡ [] → IsOk result }
+{
+    if text.is_empty() {
+        return Ok(Vec::new(alloc));
+    }
+    heap_of(alloc, code, text)
 }

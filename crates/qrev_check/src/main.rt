@@ -1,15 +1,19 @@
 //! `qrev_check FILE [ARGS..] [--heap ROLES]`: runs a program, and reports what no right compiler's output does.
 #![tactic(auto)]
 
+ghost use Rattle.std.specs.Prelude.{◌<◌, ◌-◌, ◌^◌};
+
 mod heap;
 mod line;
+mod names;
 mod report;
 mod telling;
 
 use heap::take_heap;
 use qil_options::{Failure, Given, read_given, read_words};
+use qil_streams::{IntoWriter, Sink};
 use report::{Outcome, Request, report};
-use std::alloc::Global;
+use std::alloc::{Allocator, Global};
 use std::hash::RandomState;
 use std::io;
 use std::io::LineWriter;
@@ -17,7 +21,28 @@ use std::process::ExitCode;
 use std::random::RandomSource;
 use std::rt::{Env, Files};
 
-/// Reports on what is given.
+/// Reports on what is given over a device.
+// Over any, and in any memory: with those that are known the call would compare all that it promises.
+fn report_over<A: Allocator + Copy, W: Sink>(
+    alloc: A,
+    keys: RandomState,
+    given: &Given<'_>,
+    heap: &str,
+    sink: &mut W,
+) -> Outcome
+    requires writes { W.failures sink.old < 2 ^ 64 - 1 }
+{
+    let request = Request {
+        keys,
+        entry: given.run.entry.as_bytes(),
+        args: given.run.args.as_slice(),
+        limit: given.run.limit,
+        heap: heap.as_bytes(),
+    };
+    report(alloc, given.program.as_slice(), &request, sink)
+}
+
+/// Reports on what is given, with tables that hash with keys drawn for this run.
 fn report_given<R: Print + RandomSource>(
     rt: &R,
     alloc: Global,
@@ -27,18 +52,11 @@ fn report_given<R: Print + RandomSource>(
     let Ok(keys) = RandomState::new(rt) else {
         return Err(Failure::NoKeys);
     };
-    let Ok(mut writer) = LineWriter::new(alloc, io::writer(rt)) else {
+    let Ok(writer) = LineWriter::new(alloc, io::writer(rt)) else {
         return Err(Failure::OutOfMemory);
     };
-    let request = Request {
-        keys,
-        entry: given.run.entry.as_bytes(),
-        args: given.run.args.as_slice(),
-        limit: given.run.limit,
-        heap: heap.as_bytes(),
-    };
-    let text = given.program.as_slice();
-    Ok(report(alloc, text, &request, &mut writer))
+    let mut sink = IntoWriter::new(writer);
+    Ok(report_over(alloc, keys, given, heap, &mut sink))
 }
 
 /// The command line first, then the file, then the run.
