@@ -442,8 +442,8 @@ def gone_round(program: str) -> str | None:
 
 
 def far(program: str) -> str | None:
-    """After a long run too, an unreached block is found in little more than the time of the run. Other work on the machine
-    can make one of them several times as slow as the other, so it is tried up to three times."""
+    """After a long run too, an unreached block is found in little more than the time of the run. Other work on the
+    machine can make one of them several times as slow as the other, so it is tried up to three times."""
     taken = ""
     for _ in range(3):
         fault, run, search = searched_far(program)
