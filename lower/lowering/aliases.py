@@ -16,7 +16,10 @@ def others() -> dict[str, str]:
     found |= {f"__{name}": name for name in ("isnan", "isnanf", "isinf", "isinff", "finite", "finitef")}
     found |= {"__tzname": "tzname", "__timezone": "timezone", "__daylight": "daylight", "mbrtoc32": "mbrtowc",
               "c32rtomb": "wcrtomb"}
-    found |= {f"{name}64": name for name in ("mkstemp", "mkstemps", "mkostemp")}
+    found |= {f"{name}64": name for name in ("mkstemp", "mkstemps", "mkostemp", "freopen", "tmpfile", "openat", "creat",
+                                             "fgetpos", "fsetpos", "truncate", "fcntl", "fstatat")}
+    # Headers call it so where a program asks for POSIX alone, and a compiler doesn't know names for the assembler.
+    found |= {"__posix_getopt": "getopt", "__getdelim": "getdelim", "newfstatat": "fstatat"}
     scanning = ("scanf", "fscanf", "sscanf", "vscanf", "vfscanf", "vsscanf")
     found |= {f"__isoc{year}_{name}": name for year in ("99", "23") for name in scanning}
     found |= {f"__isoc23_{name}": name for name in ("strtol", "strtoll", "strtoul", "strtoull")}
