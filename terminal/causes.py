@@ -264,10 +264,19 @@ class Causes:
         return value
 
     def control(self, at: Timeline, place: Place) -> Question:
-        first = self.program.functions[place.function].first
-        if place.label == first:
+        label = self.block_before_calls(place)
+        if label == self.program.functions[place.function].first:
             return Question("call", at, f"the call of {place.function}")
-        return Question("control", at, f"the way to {place.label}")
+        return Question("control", at, f"the way to {label}")
+
+    def block_before_calls(self, place: Place) -> str:
+        """The block of the program's own text at a place: one that goes on behind a call which no longjmp left, as the
+        program is lowered, is a part of the block with the call."""
+        blocks = self.program.functions[place.function].blocks
+        label = place.label
+        while not self.is_inside and (call := self.lowered.left_by_jumps(place.function, blocks).get(label)):
+            label = call
+        return label
 
     # Temporaries.
 
@@ -439,13 +448,14 @@ class Causes:
         """The jump by which control came to the block."""
         at = self.frames.before_end(question.at)
         place = self.frames.where(at)[0]
-        if place.label == self.program.functions[place.function].first:
+        label = self.block_before_calls(place)
+        if label == self.program.functions[place.function].first:
             return self.of_call(question)
         position = at.position
-        if place.index:
-            position, _ = next(own_hits(self.program, self.scratch, at, place.function, [(place.label, 0)]))
+        if (place.label, place.index) != (label, 0):
+            position, _ = next(own_hits(self.program, self.scratch, at, place.function, [(label, 0)]))
         there = at.at(self.came_by(at, position))
-        return self.executed(there, f"control came to {place.label} by")
+        return self.executed(there, f"control came to {label} by")
 
     def of_call(self, question: Question) -> Cause:
         """The call that made the frame."""

@@ -5,7 +5,7 @@ from __future__ import annotations
 import pathlib
 from dataclasses import dataclass, field, replace
 
-from .text import Data, Function, Instruction, Operand, Program
+from .text import Block, Data, Function, Instruction, Operand, Program
 from .values import FLOAT_BYTES, FLOATS, as_float
 
 # The function of the runtime in which a signal to the program itself ends it.
@@ -13,6 +13,8 @@ SIGNALLED = "$ended.by.signal"
 # Instructions on floats that are others on their bits.
 OF_FLOATS = {"loadl": "load", "loaduw": "load", "copy": "copy", "phi": "phi", "call": "call"}
 STORES = {"storel": "stored", "storew": "stores"}
+# The data of the runtime by which it is asked, behind each call that may lead to a longjmp, whether one is on its way.
+WANTED = "$jump.wanted"
 # By what the sign of a float is turned.
 SIGN_BITS = {"s": str(1 << 31), "d": str(1 << 63)}
 
@@ -38,6 +40,8 @@ class Lowered:
     files: dict[str, str] = field(default_factory=dict)
     # The classes of each function's parameters.
     parameters: dict[str, list[str]] = field(default_factory=dict)
+    # By function the blocks that go on behind a call which no longjmp left, each with the block of the call.
+    behind_calls: dict[str, dict[str, str]] = field(default_factory=dict)
 
     def take(self, kind: str, words: list[str]) -> None:
         """Takes what a line says; kinds that aren't known say nothing."""
@@ -122,9 +126,27 @@ class Lowered:
                 return cls
         return ""
 
+    def left_by_jumps(self, function: str, blocks: dict[str, Block]) -> dict[str, str]:
+        """The blocks of a function that go on behind a call which no longjmp left, each with the block of the call."""
+        if WANTED not in self.runtime:
+            return {}
+        if function not in self.behind_calls:
+            self.behind_calls[function] = {block.body[-1].labels[-1]: block.label for block in blocks.values()
+                                           if asks_for_jump(block)}
+        return self.behind_calls[function]
+
     def is_own(self, function: str) -> bool:
         """Whether a function is the program's own."""
         return function not in self.runtime and function not in self.outside
+
+
+def asks_for_jump(block: Block) -> bool:
+    """Whether a block ends behind a call by the question for a longjmp."""
+    if len(block.body) < 3 or block.body[-1].operation != "jnz":
+        return False
+    load, compare = block.body[-3:-1]
+    return load.operation == "loadl" and load.operands[0].text == WANTED and compare.operation == "cnel" and \
+        compare.operands[0].text == load.result and block.body[-1].operands[0].text == compare.result
 
 
 def constant(text: str, cls: str) -> str:

@@ -66,6 +66,38 @@ WRITES_LINES: Lines = [
     ("files 'a", ["files: No closing quotation"]),
     ("files out.txt /dev/null", ["9 bytes are in /dev/null"]), ("goto 0", ["#0 $main"]), ("files", ["no files"]),
 ]
+# The calls may lead to the longjmp, so that questions stand behind them, which aren't the program's own.
+LEFT = """
+data $place = align 16 { z 256 }
+function $leave(w %is) {
+@start
+	jnz %is, @yes, @no
+@yes
+	call $longjmp(l $place, w 1)
+	hlt
+@no
+	ret
+}
+export function w $main() {
+@start
+	call $leave(w 0)
+	%r =w call $setjmp(l $place)
+	jnz %r, @out, @more
+@more
+	call $leave(w 0)
+	call $leave(w 0)
+	ret 7
+@out
+	ret 1
+}
+"""
+LEFT_LINES: Lines = [
+    ("c", ["done 7"]), ("why", ["ret 7", "[1] the way to @more\n"]),
+    ("why 1", ["control came to @more by\n", "jnz %r, @out, @more", "[1] %r = 0"]),
+    ("b $leave @no", ["break 1"]), ("start", ["#0"]), ("c", ["break 1"]), ("fin", ["$main @start"]),
+    ("step 3", ["@jump.on"]), ("why jump", ["the run begins with $main"]),
+    ("why --inside jump", ["control came to @jump.on", "jnz %.jump.is.wanted"]),
+]
 FREED = """
 export function w $main() {
 @start
@@ -432,7 +464,7 @@ OUTPUT_LINES: Lines = [
 
 SESSIONS = {"constants": (CONSTANTS, CONSTANTS_LINES), "output": (OUTPUT, OUTPUT_LINES),
             "absent": (ABSENT, ABSENT_LINES), "writes": (WRITES, WRITES_LINES), "freed": (FREED, FREED_LINES),
-            "nowhere": (NOWHERE, NOWHERE_LINES), "signal": (SIGNAL, SIGNAL_LINES),
+            "left": (LEFT, LEFT_LINES), "nowhere": (NOWHERE, NOWHERE_LINES), "signal": (SIGNAL, SIGNAL_LINES),
             "floats": (FLOATS, FLOATS_LINES), "singles": (SINGLES, SINGLES_LINES), "called": (CALLED, CALLED_LINES),
             "chain of floats": (chain(OPERATIONS), CHAIN_LINES), "short names": (large(), LARGE_LINES),
             "places": (PLACES, PLACES_LINES)}
