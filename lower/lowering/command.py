@@ -1,5 +1,6 @@
 """The command line of qrev-lower."""
 import argparse
+import errno
 import gc
 import os
 import pathlib
@@ -50,12 +51,23 @@ def options() -> Parser:
                         "argv is given without --arguments, too")
     parser.add_argument("--arguments", metavar="WORD", nargs=argparse.REMAINDER,
                         help="all that follows are words for the argc and argv of the entry")
-    parser.add_argument("files", metavar="FILE", nargs="+", help="a text of QBE")
+    parser.add_argument("files", metavar="FILE", nargs="+",
+                        help="a text of QBE, or a folder, which stands for the texts *.ssa in it")
     return parser
 
 
 def read_text(path: str) -> Text:
     return TextReader(pathlib.Path(path).read_bytes().decode(ENCODING), path).read()
+
+
+def texts_in(path: str) -> list[str]:
+    """The text itself, or the texts of a folder by their names, such as a compiler makes of several sources."""
+    if not os.path.isdir(path):
+        return [path]
+    found = sorted(os.path.join(path, name) for name in os.listdir(path) if name.endswith(".ssa"))
+    if not found:
+        raise FileNotFoundError(errno.ENOENT, "no text *.ssa is in this folder", path)
+    return found
 
 
 def map_beside(output: str | None) -> str | None:
@@ -189,7 +201,8 @@ def main(words: list[str]) -> int:
         given.arguments = words[at + 1:]
     try:
         input_bytes = pathlib.Path(given.input).read_bytes() if given.input is not None else b""
-        lowering = Lowering([read_text(path) for path in given.files], given.entry, given.link, given.arguments,
+        paths = [path for file in given.files for path in texts_in(file)]
+        lowering = Lowering([read_text(path) for path in paths], given.entry, given.link, given.arguments,
                             input_bytes, given.argv, given.file)
         write_all(lowering, given.output, given.map)
     except Refused as refused:

@@ -15,6 +15,8 @@ from .symbols import Signature, Symbol, carried_class
 
 MOST_BYTES = MOST_DATA = 1 << 20
 MOST_FUNCTIONS = 1000
+# How many of the largest data are named where all of it is too much.
+MOST_DATA_TOLD = 4
 FIRST_FUNCTION, FUNCTION_STEP, FIRST_DATA = 4096, 16, 65536
 # The data of the runtime from which memory is given: as much as the other data leaves, up to what it has.
 HEAP, HEAP_ENDS = "$heap", ("$heap.end", "$heap.top")
@@ -169,6 +171,10 @@ class ProgramWriter:
                                    ("functions", len(self.chunks) - len(self.data), MOST_FUNCTIONS)):
             if number > most:
                 found.append(f"the program has {number} {what}, and qrev takes at most {most}")
+        if self.data_bytes > MOST_DATA:
+            largest = sorted(((size_of_data(symbol.data()), symbol.name) for symbol in self.data), reverse=True)
+            found.append("the largest data: " +
+                         ", ".join(f"{size} of {name}" for size, name in largest[:MOST_DATA_TOLD]))
         return found
 
 

@@ -8,6 +8,7 @@ import subprocess
 import sys
 import tempfile
 import threading
+from collections.abc import Callable
 
 from .running import DATA, FOLDER, LOWER, TOP, Results, Running, differ
 
@@ -295,6 +296,7 @@ def compared_faults(running: Running) -> Results:
         yield "command/compare --lower of one text", differ(
             "told", (64, "", "qrev-compare: two texts were expected: ./qrev-compare --lower GOOD BAD\n"),
             (told.returncode, told.stdout, told.stderr))
+        yield "command/compare folders", folders_fault(wrapper, run)
         for file in ("echo.ssa", "other.ssa"):
             (wrapper.top / file).write_text(ECHO)
         for texts in ("", "-- a b"):
@@ -306,6 +308,29 @@ def compared_faults(running: Running) -> Results:
         for before in ("--lower", ""):
             yield f"command/compare --page {before}", page_fault(wrapper, before.split())
         yield "command/compare --lower leaves nothing", differ("files", [], list((wrapper.top / "tmp").iterdir()))
+
+
+# A program of two texts; the second squares its argument, or doubles it.
+CALLS_OTHER = "export function w $main() {\n@start\n\t%x =w call $other(w 3)\n\tret %x\n}\n"
+OTHER = "export function w $other(w %x) {\n@start\n\t%y =w OPERATION\n\tret %y\n}\n"
+
+
+def folders_fault(wrapper: Wrapper, run: Callable[..., subprocess.CompletedProcess[str]]) -> str | None:
+    """Two folders, each with the two texts of a program and with a file of another kind, and one without texts."""
+    for folder, operation in (("first", "mul %x, %x"), ("second", "add %x, %x")):
+        (wrapper.top / folder).mkdir()
+        for file, text in (("main.ssa", CALLS_OTHER), ("other.ssa", OTHER.replace("OPERATION", operation)),
+                           ("notes", "no text")):
+            (wrapper.top / folder / file).write_text(text)
+    told = run("first/", "second")
+    lines = told.stdout.split("\n")
+    (wrapper.top / "empty").mkdir()
+    none = run("first", "empty")
+    return differ("status", 1, told.returncode) or \
+        differ("good", True, "good: return $other 9" in lines) or \
+        differ("bad", True, "bad: return $other 6" in lines) or \
+        differ("place", True, any("    second/main.ssa:4: ret %x" in line for line in lines)) or \
+        differ("none", (2, "qrev-lower: empty: no text *.ssa is in this folder\n"), (none.returncode, none.stderr))
 
 
 def page_fault(wrapper: Wrapper, before: list[str]) -> str | None:

@@ -68,6 +68,20 @@ export function w $main() {
 """
 
 
+# More data than fits: 1,048,576 bytes, and 5,000 on from the next multiple of 16.
+FULL = """
+data $few = align 16 { z 5000 }
+data $many = align 16 { z 1048576 }
+export function w $main() {
+@start
+	%x =w loadw $many
+	%y =w loadw $few
+	%z =w add %x, %y
+	ret %z
+}
+"""
+
+
 def fault_of(running: Running, text: str, functions: int, told: str, output: str) -> str | None:
     lowered = running.lower({"a.ssa": text}, "--link", "--report")
     run = running.run(lowered.text)
@@ -93,6 +107,10 @@ def results(running: Running) -> Results:
     yield "sizes/too large all the same", differ("status", 1, lowered.status) or \
         differ("told", (True, True), ("bytes, and qrev takes at most 1048576" in lowered.errors,
                                       " of a.ssa" in lowered.errors))
+    lowered = running.lower({"a.ssa": FULL}, "--link")
+    yield "sizes/too much data", differ("told", (
+        1, "qrev-lower: the program has 1053584 bytes of data, and qrev takes at most 1048576\n"
+        "qrev-lower: the largest data: 1048576 of $many, 5000 of $few\n"), (lowered.status, lowered.errors))
     lowered = running.lower({"a.ssa": READS}, "--link", "--input", "input", beside={"input": "x" * 1_100_000})
     told = "\nqrev-lower: input, which it reads, has 1100000 bytes, and is part of its data\n"
     yield "sizes/too much input", differ("end", (1, True), (lowered.status, lowered.errors.endswith(told)))
