@@ -1,9 +1,10 @@
 //! The requests while a session is open: what each does, its response, and what follows it.
 
-ghost use Rattle.std.specs.Prelude.{◌≡◌, Bool, cond, codes, None};
+ghost use Rattle.std.specs.Prelude.{◌≡◌, ◌&&◌, cond, codes, is_some, not, None};
 ghost use Rattle.qrev_debuggee.specs.qrev_recorder.qil_replies.qil_stops.Depths.{depth};
 ghost use Rattle.qrev_notices.specs.Conversation.{asked_by, spoken, Responds};
-ghost use Rattle.qrev_adapter.specs.Asked.{motion_of, line_of, first_of, travel_of};
+ghost use Rattle.qrev_requests.specs.Members.{json_of};
+ghost use Rattle.qrev_adapter.specs.Asked.{asks_single, motion_of, line_of, first_of, travel_of, travel_said};
 ghost use Rattle.qrev_adapter.specs.Served.{Leaves};
 
 use qil_machine::Code;
@@ -196,6 +197,23 @@ fn travel_of(has_lines: bool, command: &str, is_single: bool, depth: usize) -> O
     first_of(line, motion)
 }
 
+/// Whether a request asks for single moves.
+fn asks_single<A: Allocator + Copy>(asked: Arguments<'_, '_, A>) -> bool
+    ensures { result ≡ asks_single (json_of asked.entry) }
+{
+    match asked.text("granularity") {
+        Some(text) => text == "instruction",
+        None => false,
+    }
+}
+
+/// Whether steps lead from line to line: by a map of places, where no single moves are asked for.
+fn goes_by_lines(has_map: bool, is_single: bool) -> bool
+    ensures { result ≡ (has_map && not is_single) }
+{
+    has_map && !is_single
+}
+
 /// Where a request asks to go, if it does: from line to line of a source if there is a map of places, and by single moves if it
 /// says so.
 fn travel_asked<'c, A: Allocator + Copy + 'c, L: HasMachine<A, Code<'c, A>>>(
@@ -203,10 +221,11 @@ fn travel_asked<'c, A: Allocator + Copy + 'c, L: HasMachine<A, Code<'c, A>>>(
     command: &str,
     asked: Arguments<'_, '_, A>,
 ) -> Option<Travel>
-    ensures { (has_lines is_single : Bool) × (result ≡ travel_of has_lines command.now is_single (depth (L.state debuggee.now.recorder.live).timeline)) }
+    ensures { result ≡ travel_said (is_some debuggee.now.source_map) command.now (json_of asked.entry) (depth (L.state debuggee.now.recorder.live).timeline) }
 {
-    let is_single = asked.text("granularity") == Some("instruction");
-    let has_lines = debuggee.source_map.is_some() && !is_single;
+    let is_single = asks_single(asked);
+    let has_map = debuggee.source_map.is_some();
+    let has_lines = goes_by_lines(has_map, is_single);
     travel_of(has_lines, command, is_single, debuggee.depth())
 }
 

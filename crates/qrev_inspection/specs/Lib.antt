@@ -2,3 +2,5 @@
 pub mod Shown
 pub mod Requested
 pub mod ReadBytes
+pub mod Taken
+pub mod Setting

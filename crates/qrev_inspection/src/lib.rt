@@ -2,6 +2,7 @@
 //! offered while a command is typed.
 #![tactic(auto)]
 
+mod answering;
 mod completing;
 mod evaluating;
 mod looking;

@@ -10,6 +10,7 @@ ghost use Rattle.qrev_requests.specs.Members.{json_of, IsNumberIn};
 ghost use Rattle.qrev_debuggee.specs.declared.failure.Failure.TheVariants.{OutOfMemory};
 ghost use Rattle.qrev_inspection.specs.ReadBytes.{AreRead, HasNoBytes, IsMovedBy, SaysAddress, SaysNoAddress, SaysOffset, ShowsBytes, memory_members, read_limit, unreadable_member};
 
+use crate::answering::answer_line;
 use base64::engine::general_purpose::STANDARD;
 use qil_fragments::Fragment;
 use qil_machine::Code;
@@ -236,14 +237,17 @@ fn poke_all<'c, A: Allocator + Copy + 'c, L: HasMachine<A, Code<'c, A>>>(
         }
         let (letter, width) = widest(rest.len());
         let (word, after) = rest.split_at(width);
-        let _done = debuggee.line_of(&[
-            Fragment::Bytes(b"poke "),
-            Fragment::Bytes(letter.as_bytes()),
-            Fragment::Bytes(b" "),
-            Fragment::Number(at),
-            Fragment::Bytes(b" "),
-            Fragment::Number(number_of(word)),
-        ])?;
+        let _done = answer_line(
+            debuggee,
+            &[
+                Fragment::Bytes(b"poke "),
+                Fragment::Bytes(letter.as_bytes()),
+                Fragment::Bytes(b" "),
+                Fragment::Number(at),
+                Fragment::Bytes(b" "),
+                Fragment::Number(number_of(word)),
+            ],
+        )?;
         at = at.wrapping_add(width as u64);
         rest = after;
     }

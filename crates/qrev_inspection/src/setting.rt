@@ -1,6 +1,18 @@
 //! `setVariable` and `setExpression`: a temporary of the innermost frame, or memory.
 
-use crate::looking::showing_said;
+ghost use Rattle.std.specs.Prelude.{◌≡◌, ◌<◌, ◌==◌, [], ℕ, None, Some, false, true, length, string_bytes, IfErr, IfOk, IfSome};
+ghost use Rattle.std.specs.List.{list_all, list_any};
+ghost use Rattle.std.specs.Char.{is_ascii_digit};
+ghost use Rattle.qil_tree.specs.declared.ops.Width.{Width};
+ghost use Rattle.qil_commands.specs.Numbers.{value_of};
+ghost use Rattle.qrev_requests.specs.Members.{json_of};
+ghost use Rattle.qrev_views.specs.Variables.{width_letter};
+ghost use Rattle.qrev_inspection.specs.Taken.{IsNotTaken, Takes};
+ghost use Rattle.qrev_debuggee.specs.declared.failure.Failure.TheVariants.{OutOfMemory};
+ghost use Rattle.qrev_inspection.specs.Setting.{AreWords, PokesOnce, RefusesNamed, RefusesTemp, RefusesVariable, SetsData, SetsNamed, SetsTemp, SetsVariable, Stays, poke_at_line, poke_line, set_line, without};
+
+use crate::answering::answer_line;
+use crate::looking::{showing_said, text_said};
 use crate::results::{cause_of, put_type};
 use qil_fragments::Fragment;
 use qil_machine::Code;
@@ -68,14 +80,32 @@ fn bits_of(value: Value, float: Option<FloatClass>) -> Option<u64> {
     }
 }
 
-/// Whether a text is a number as the session takes it.
-fn is_plain(text: &[u8]) -> bool {
-    let digits = text.strip_prefix(b"-").unwrap_or(text);
-    digits.iter().all(|byte| byte.is_ascii_digit())
+/// A text without this byte before it.
+fn without(byte: u8, text: &[u8]) -> &[u8]
+    ensures { result.now ≡ without byte text.now }
+{
+    match text.split_first() {
+        Some((first, rest)) => { if *first == byte { rest } else { text } }
+        None => text,
+    }
 }
 
-/// The value that a text says, in the words of a command: it may be an expression. What is none is the session's to refuse.
-fn words_of<'c, A: Allocator + Copy + 'c, M: Readers<A, Code<'c, A>>>(
+/// Whether a text is digits.
+fn are_digits(text: &[u8]) -> bool
+    ensures { result ≡ list_all is_ascii_digit text.now }
+{
+    text.iter().all(|byte| byte.is_ascii_digit())
+}
+
+/// Whether a text is a number as the session takes it, and no float is meant.
+fn is_plain(float: Option<FloatClass>, text: &[u8]) -> bool
+    ensures { float ≡ None → (n : ℕ) → value_of text.now ≡ Some n → result ≡ true }
+{
+    float.is_none() && are_digits(without(b'-', text))
+}
+
+/// The value of an expression, in the words of a command. What is none is the session's to refuse.
+fn worth_of<'c, A: Allocator + Copy + 'c, M: Readers<A, Code<'c, A>>>(
     alloc: A,
     machine: &M,
     names: &Names<A>,
@@ -83,9 +113,6 @@ fn words_of<'c, A: Allocator + Copy + 'c, M: Readers<A, Code<'c, A>>>(
     float: Option<FloatClass>,
     text: &str,
 ) -> Result<String<A>, Failure> {
-    if float.is_none() && is_plain(text.as_bytes()) {
-        return Ok(String::from_str(alloc, text)?);
-    }
     // What stands behind a value, as the name of an address, isn't a part of it.
     let (front, _) = text.split_once(" <").unwrap_or((text, ""));
     let (front, _) = front.split_once(" (-").unwrap_or((front, ""));
@@ -102,18 +129,42 @@ fn words_of<'c, A: Allocator + Copy + 'c, M: Readers<A, Code<'c, A>>>(
     }
 }
 
+/// The value that a text says, in the words of a command: it may be an expression.
+fn words_of<'c, A: Allocator + Copy + 'c, M: Readers<A, Code<'c, A>>>(
+    alloc: A,
+    machine: &M,
+    names: &Names<A>,
+    scene: Scene,
+    float: Option<FloatClass>,
+    text: &str,
+) -> Result<String<A>, Failure>
+    ensures words { IfOk result (λ words. AreWords float text.now (string_bytes words)) }
+    ensures fails { IfErr result (λ why. float ≡ None → (n : ℕ) → value_of text.now ≡ Some n → why ≡ OutOfMemory) }
+{
+    if is_plain(float, text.as_bytes()) {
+        return Ok(String::from_str(alloc, text)?);
+    }
+    worth_of(alloc, machine, names, scene, float, text)
+}
+
 /// Answers the line that sets a temporary.
 fn answer_set<'c, 'x, A: Allocator + Copy + 'c, L: HasMachine<A, Code<'c, A>>>(
     debuggee: &mut Debuggee<'c, A, L>,
     name: &'x [u8],
     value: &'x [u8],
-) -> Result<Done, Failure> {
-    debuggee.line_of(&[
-        Fragment::Bytes(b"set %"),
-        Fragment::Bytes(name),
-        Fragment::Bytes(b" "),
-        Fragment::Bytes(value),
-    ])
+) -> Result<Done, Failure>
+    ensures done { IfOk result (Takes (record { session = L.state debuggee.old.recorder.live; script = debuggee.old.recorder.script.items; transcript = debuggee.old.recorder.transcript.items }) (record { session = L.state debuggee.new.recorder.live; script = debuggee.new.recorder.script.items; transcript = debuggee.new.recorder.transcript.items }) (set_line name.now value.now)) }
+    ensures failed { IfErr result (IsNotTaken (record { session = L.state debuggee.old.recorder.live; script = debuggee.old.recorder.script.items; transcript = debuggee.old.recorder.transcript.items }) (record { session = L.state debuggee.new.recorder.live; script = debuggee.new.recorder.script.items; transcript = debuggee.new.recorder.transcript.items }) (set_line name.now value.now)) }
+{
+    answer_line(
+        debuggee,
+        &[
+            Fragment::Bytes(b"set %"),
+            Fragment::Bytes(name),
+            Fragment::Bytes(b" "),
+            Fragment::Bytes(value),
+        ],
+    )
 }
 
 /// What the innermost frame holds of the temporary of a name, and what that is.
@@ -121,7 +172,9 @@ fn temp_now<'l, 'c, A: Allocator + Copy + 'c, M: Readers<A, Code<'c, A>>>(
     machine: &M,
     names: &Names<A>,
     name: &[u8],
-) -> Set<'l> {
+) -> Set<'l>
+    ensures { names.now.text.items ≡ [] → result.float ≡ None }
+{
     let Some(frame) = frame_of(machine, 1) else {
         return Set {
             value: None,
@@ -154,7 +207,10 @@ fn words_in<'c, A: Allocator + Copy + 'c, L: HasMachine<A, Code<'c, A>>>(
     scene: Scene,
     float: Option<FloatClass>,
     text: &str,
-) -> Result<String<A>, Failure> {
+) -> Result<String<A>, Failure>
+    ensures words { IfOk result (λ words. AreWords float text.now (string_bytes words)) }
+    ensures fails { IfErr result (λ why. float ≡ None → (n : ℕ) → value_of text.now ≡ Some n → why ≡ OutOfMemory) }
+{
     words_of(
         debuggee.alloc,
         debuggee.machine(),
@@ -169,17 +225,31 @@ fn words_in<'c, A: Allocator + Copy + 'c, L: HasMachine<A, Code<'c, A>>>(
 fn temp_in<'c, 'l, A: Allocator + Copy + 'c, L: HasMachine<A, Code<'c, A>>>(
     debuggee: &Debuggee<'c, A, L>,
     name: &[u8],
-) -> Set<'l> {
+) -> Set<'l>
+    ensures { debuggee.now.names.text.items ≡ [] → result.float ≡ None }
+{
     temp_now(debuggee.machine(), &debuggee.names, name)
+}
+
+/// The name of a temporary in the text that is run, by the one that is shown without its sigil.
+fn run_name<'n, A: Allocator + Copy>(names: &'n Names<A>, told: &'n [u8]) -> &'n [u8]
+    ensures { names.now.text.items ≡ [] → result.now ≡ told.now }
+{
+    if names.is_empty() {
+        return told;
+    }
+    names.run(b"%", told)
 }
 
 /// The name of a temporary in the text, by the name that is shown.
 fn name_in<'c, A: Allocator + Copy + 'c, L: HasMachine<A, Code<'c, A>>>(
     debuggee: &Debuggee<'c, A, L>,
     told: &[u8],
-) -> Result<Vec<u8, A>, AllocError> {
-    let told = told.strip_prefix(b"%").unwrap_or(told);
-    Vec::from_slice(debuggee.alloc, debuggee.names.run(b"%", told))
+) -> Result<Vec<u8, A>, AllocError>
+    ensures { IfOk result (λ name. debuggee.now.names.text.items ≡ [] → name.items ≡ without 37 told.now) }
+{
+    let plain = run_name(&debuggee.names, without(b'%', told));
+    Vec::from_slice(debuggee.alloc, plain)
 }
 
 /// Sets a temporary of the innermost frame, and gives its value after that.
@@ -187,7 +257,11 @@ fn set_temp<'c, 'x, 'l, A: Allocator + Copy + 'c, L: HasMachine<A, Code<'c, A>>>
     debuggee: &mut Debuggee<'c, A, L>,
     name: &'x [u8],
     value: &'x str,
-) -> Result<Set<'l>, Failure> {
+) -> Result<Set<'l>, Failure>
+    ensures set { IfOk result (λ set. SetsTemp (L.state debuggee.old.recorder.live) (L.state debuggee.new.recorder.live) debuggee.old.names.text.items name.now value.now) }
+    ensures stays { IfErr result (Stays (L.state debuggee.old.recorder.live) (L.state debuggee.new.recorder.live)) }
+    ensures refused { IfErr result (RefusesTemp (L.state debuggee.old.recorder.live) debuggee.old.names.text.items name.now value.now) }
+{
     let plain = name_in(debuggee, name)?;
     let before: Set<'l> = temp_in(debuggee, plain.as_slice());
     let scene = innermost(debuggee.position());
@@ -202,15 +276,21 @@ fn answer_poke<'c, 'x, A: Allocator + Copy + 'c, L: HasMachine<A, Code<'c, A>>>(
     letter: &'x str,
     name: &'x [u8],
     value: &'x [u8],
-) -> Result<Done, Failure> {
-    debuggee.line_of(&[
-        Fragment::Bytes(b"poke "),
-        Fragment::Bytes(letter.as_bytes()),
-        Fragment::Bytes(b" $"),
-        Fragment::Bytes(name),
-        Fragment::Bytes(b" "),
-        Fragment::Bytes(value),
-    ])
+) -> Result<Done, Failure>
+    ensures done { IfOk result (Takes (record { session = L.state debuggee.old.recorder.live; script = debuggee.old.recorder.script.items; transcript = debuggee.old.recorder.transcript.items }) (record { session = L.state debuggee.new.recorder.live; script = debuggee.new.recorder.script.items; transcript = debuggee.new.recorder.transcript.items }) (poke_line letter.now name.now value.now)) }
+    ensures failed { IfErr result (IsNotTaken (record { session = L.state debuggee.old.recorder.live; script = debuggee.old.recorder.script.items; transcript = debuggee.old.recorder.transcript.items }) (record { session = L.state debuggee.new.recorder.live; script = debuggee.new.recorder.script.items; transcript = debuggee.new.recorder.transcript.items }) (poke_line letter.now name.now value.now)) }
+{
+    answer_line(
+        debuggee,
+        &[
+            Fragment::Bytes(b"poke "),
+            Fragment::Bytes(letter.as_bytes()),
+            Fragment::Bytes(b" $"),
+            Fragment::Bytes(name),
+            Fragment::Bytes(b" "),
+            Fragment::Bytes(value),
+        ],
+    )
 }
 
 /// The shown word of a data object.
@@ -230,7 +310,9 @@ fn word_now<'c, A: Allocator + Copy + 'c, M: Readers<A, Code<'c, A>>>(
 fn data_in<'c, 'l, A: Allocator + Copy + 'c, L: HasMachine<A, Code<'c, A>>>(
     debuggee: &Debuggee<'c, A, L>,
     name: &[u8],
-) -> Option<(Set<'l>, &'l str)> {
+) -> Option<(Set<'l>, &'l str)>
+    ensures { IfSome result (λ found. (debuggee.now.names.text.items ≡ [] → found.0.float ≡ None) × (width : Width) × (found.1.now ≡ width_letter width)) }
+{
     let data = data_named(debuggee.program(), name)?;
     let (letter, width) = data_word(data);
     let float = data_float(&debuggee.names, data);
@@ -248,8 +330,11 @@ fn set_data<'c, 'x, 'l, A: Allocator + Copy + 'c, L: HasMachine<A, Code<'c, A>>>
     debuggee: &mut Debuggee<'c, A, L>,
     name: &'x [u8],
     value: &'x str,
-) -> Result<Set<'l>, Failure> {
-    let plain = name.strip_prefix(b"$").unwrap_or(name);
+) -> Result<Set<'l>, Failure>
+    ensures set { IfOk result (λ set. SetsData (L.state debuggee.old.recorder.live) (L.state debuggee.new.recorder.live) debuggee.old.names.text.items name.now value.now) }
+    ensures stays { IfErr result (Stays (L.state debuggee.old.recorder.live) (L.state debuggee.new.recorder.live)) }
+{
+    let plain = without(b'$', name);
     let before: Option<(Set<'l>, &'l str)> = data_in(debuggee, plain);
     let Some((set, letter)) = before else {
         return Err(Failure::Because(Cause::NoSuchName));
@@ -282,7 +367,9 @@ fn class_of_width(width: u64) -> Option<Class> {
 }
 
 /// The letter of the poke of memory, the letter that is shown, how many bytes it has, and which float it is.
-fn poked(memory: Memory) -> (&'static str, &'static str, u64, Option<FloatClass>) {
+fn poked(memory: Memory) -> (&'static str, &'static str, u64, Option<FloatClass>)
+    ensures { (width : Width) × (result.0.now ≡ width_letter width) }
+{
     match memory {
         Memory::Byte => ("b", "b", 1, None),
         Memory::Half => ("h", "h", 2, None),
@@ -313,15 +400,21 @@ fn answer_poke_at<'c, 'x, A: Allocator + Copy + 'c, L: HasMachine<A, Code<'c, A>
     letter: &'x str,
     address: u64,
     value: &'x [u8],
-) -> Result<Done, Failure> {
-    debuggee.line_of(&[
-        Fragment::Bytes(b"poke "),
-        Fragment::Bytes(letter.as_bytes()),
-        Fragment::Bytes(b" "),
-        Fragment::Number(address),
-        Fragment::Bytes(b" "),
-        Fragment::Bytes(value),
-    ])
+) -> Result<Done, Failure>
+    ensures done { IfOk result (Takes (record { session = L.state debuggee.old.recorder.live; script = debuggee.old.recorder.script.items; transcript = debuggee.old.recorder.transcript.items }) (record { session = L.state debuggee.new.recorder.live; script = debuggee.new.recorder.script.items; transcript = debuggee.new.recorder.transcript.items }) (poke_at_line letter.now address value.now)) }
+    ensures failed { IfErr result (IsNotTaken (record { session = L.state debuggee.old.recorder.live; script = debuggee.old.recorder.script.items; transcript = debuggee.old.recorder.transcript.items }) (record { session = L.state debuggee.new.recorder.live; script = debuggee.new.recorder.script.items; transcript = debuggee.new.recorder.transcript.items }) (poke_at_line letter.now address value.now)) }
+{
+    answer_line(
+        debuggee,
+        &[
+            Fragment::Bytes(b"poke "),
+            Fragment::Bytes(letter.as_bytes()),
+            Fragment::Bytes(b" "),
+            Fragment::Number(address),
+            Fragment::Bytes(b" "),
+            Fragment::Bytes(value),
+        ],
+    )
 }
 
 /// Writes a value to memory, and gives what is there after that.
@@ -331,7 +424,10 @@ fn set_memory<'c, 'x, 'l, A: Allocator + Copy + 'c, L: HasMachine<A, Code<'c, A>
     memory: Memory,
     address: u64,
     value: &'x str,
-) -> Result<Set<'l>, Failure> {
+) -> Result<Set<'l>, Failure>
+    ensures set { IfOk result (λ set. PokesOnce (L.state debuggee.old.recorder.live) (L.state debuggee.new.recorder.live)) }
+    ensures stays { IfErr result (Stays (L.state debuggee.old.recorder.live) (L.state debuggee.new.recorder.live)) }
+{
     let (verb, letter, width, float) = poked(memory);
     let words = words_in(debuggee, scene, float, value)?;
     answer_poke_at(debuggee, verb, address, words.as_str().as_bytes())?;
@@ -382,7 +478,10 @@ fn set_said<'c, 'x, 'l, A: Allocator + Copy + 'c, L: HasMachine<A, Code<'c, A>>>
     scene: Scene,
     text: &'x str,
     value: &'x str,
-) -> Result<Set<'l>, Failure> {
+) -> Result<Set<'l>, Failure>
+    ensures set { IfOk result (λ set. PokesOnce (L.state debuggee.old.recorder.live) (L.state debuggee.new.recorder.live)) }
+    ensures stays { IfErr result (Stays (L.state debuggee.old.recorder.live) (L.state debuggee.new.recorder.live)) }
+{
     let expression = match parse(debuggee.alloc, text.as_bytes()) {
         Ok(expression) => expression,
         Err(Unread::Malformed) => return Err(Failure::Because(Cause::NoSuchName)),
@@ -411,19 +510,29 @@ fn set_said<'c, 'x, 'l, A: Allocator + Copy + 'c, L: HasMachine<A, Code<'c, A>>>
 fn refusal_of<'c, A: Allocator + Copy + 'c, M: Readers<A, Code<'c, A>>>(
     machine: &M,
     reference: u64,
-) -> Option<Cause> {
+) -> Option<Cause>
+    ensures none { result ≡ None → reference ≡ 1 }
+    ensures refused { IfSome result (λ cause. reference ≡ 1 → length (M.whole machine.now).frames < 1) }
+{
     if reference == MACHINE {
         return Some(Cause::ReadOnly);
     }
     match frame_of(machine, reference) {
-        Some(_) if reference == 1 => None,
-        Some(_) => Some(Cause::ReadOnly),
+        Some(_) => {
+            if reference == 1 {
+                None
+            } else {
+                Some(Cause::ReadOnly)
+            }
+        }
         None => Some(Cause::NoSuchVariables),
     }
 }
 
 /// The memory that a part of a data object is, or of what a temporary points to, by its expression.
-fn is_part(reference: u64) -> bool {
+fn is_part(reference: u64) -> bool
+    ensures { reference ≡ 1 → result ≡ false }
+{
     reference >= qrev_views::OBJECTS || (reference >= qrev_views::POINTED && reference < MACHINE)
 }
 
@@ -433,7 +542,11 @@ fn set_in<'c, 'x, 'l, A: Allocator + Copy + 'c, L: HasMachine<A, Code<'c, A>>>(
     reference: u64,
     name: &'x [u8],
     value: &'x str,
-) -> Result<Set<'l>, Failure> {
+) -> Result<Set<'l>, Failure>
+    ensures set { IfOk result (λ set. SetsNamed (L.state debuggee.old.recorder.live) (L.state debuggee.new.recorder.live) debuggee.old.names.text.items reference name.now value.now) }
+    ensures stays { IfErr result (Stays (L.state debuggee.old.recorder.live) (L.state debuggee.new.recorder.live)) }
+    ensures refused { IfErr result (RefusesNamed (L.state debuggee.old.recorder.live) debuggee.old.names.text.items reference name.now value.now) }
+{
     if reference == DATA {
         return set_data(debuggee, name, value);
     }
@@ -443,17 +556,28 @@ fn set_in<'c, 'x, 'l, A: Allocator + Copy + 'c, L: HasMachine<A, Code<'c, A>>>(
     }
 }
 
+/// Whether a newline is in a name or in a value.
+fn has_newline(name: &[u8], value: &[u8]) -> bool
+    ensures { list_any (λ b. b == 10) name.now ≡ false → list_any (λ b. b == 10) value.now ≡ false → result ≡ false }
+{
+    name.contains(&b'\n') || value.contains(&b'\n')
+}
+
 /// Sets a variable, and gives its new value.
 fn set_asked<'c, 'l, A: Allocator + Copy + 'c, L: HasMachine<A, Code<'c, A>>>(
     debuggee: &mut Debuggee<'c, A, L>,
     asked: Arguments<'_, '_, A>,
-) -> Result<Set<'l>, Failure> {
-    let name = asked.text("name").unwrap_or("").as_bytes();
-    let value = asked.text("value").unwrap_or("");
-    if name.contains(&b'\n') || value.as_bytes().contains(&b'\n') {
+) -> Result<Set<'l>, Failure>
+    ensures set { IfOk result (λ set. SetsVariable (L.state debuggee.old.recorder.live) (L.state debuggee.new.recorder.live) debuggee.old.names.text.items (json_of asked.entry)) }
+    ensures stays { IfErr result (Stays (L.state debuggee.old.recorder.live) (L.state debuggee.new.recorder.live)) }
+    ensures refused { IfErr result (RefusesVariable (L.state debuggee.old.recorder.live) debuggee.old.names.text.items (json_of asked.entry)) }
+{
+    let reference = asked.number("variablesReference").unwrap_or(0);
+    let name = text_said(asked, "name").as_bytes();
+    let value = text_said(asked, "value");
+    if has_newline(name, value.as_bytes()) {
         return Err(Failure::Because(Cause::NewlineInValue));
     }
-    let reference = asked.number("variablesReference").unwrap_or(0);
     if is_part(reference) {
         return Err(Failure::Because(Cause::ReadOnly));
     }
@@ -465,7 +589,11 @@ pub fn set_variable<'c, A: Allocator + Copy + 'c, L: HasMachine<A, Code<'c, A>>>
     debuggee: &mut Debuggee<'c, A, L>,
     asked: Arguments<'_, '_, A>,
     body: Body<A>,
-) -> Result<Body<A>, Failure> {
+) -> Result<Body<A>, Failure>
+    ensures set { IfOk result (λ o. SetsVariable (L.state debuggee.old.recorder.live) (L.state debuggee.new.recorder.live) debuggee.old.names.text.items (json_of asked.entry)) }
+    ensures stays { IfErr result (Stays (L.state debuggee.old.recorder.live) (L.state debuggee.new.recorder.live)) }
+    ensures refused { IfErr result (RefusesVariable (L.state debuggee.old.recorder.live) debuggee.old.names.text.items (json_of asked.entry)) }
+{
     let set = set_asked(debuggee, asked)?;
     let showing = showing_said(debuggee.client, asked);
     let code = code_of(debuggee.machine());
@@ -477,7 +605,10 @@ pub fn set_expression<'c, A: Allocator + Copy + 'c, L: HasMachine<A, Code<'c, A>
     debuggee: &mut Debuggee<'c, A, L>,
     asked: Arguments<'_, '_, A>,
     body: Body<A>,
-) -> Result<Body<A>, Failure> {
+) -> Result<Body<A>, Failure>
+    ensures set { IfOk result (λ o. PokesOnce (L.state debuggee.old.recorder.live) (L.state debuggee.new.recorder.live)) }
+    ensures stays { IfErr result (Stays (L.state debuggee.old.recorder.live) (L.state debuggee.new.recorder.live)) }
+{
     let value = asked.text("value").unwrap_or("");
     if value.as_bytes().contains(&b'\n') {
         return Err(Failure::Because(Cause::NewlineInValue));
