@@ -504,7 +504,9 @@ class Causes:
         called = self.program.calls.get(address - address % FUNCTION_BYTES)
         if called:
             return f"{address} is in {called}, a function, which has no bytes"
-        data = min(self.program.data, key=lambda data: distance(number, data.address, data.size), default=None)
+        # A user knows nothing of what the runtime has beside the program's data.
+        own = [data for data in self.program.data if self.lowered.is_own(data.name)]
+        data = min(own, key=lambda data: distance(number, data.address, data.size), default=None)
         name = self.frames.name(low, "l", at) if low != address else None
         if name and (not data or distance(number, data.address, data.size) > FAR):
             return f"its low 32 bits are an address, {low} ({name})"

@@ -135,9 +135,9 @@ class Lowered:
                                            if asks_for_jump(block)}
         return self.behind_calls[function]
 
-    def is_own(self, function: str) -> bool:
-        """Whether a function is the program's own."""
-        return function not in self.runtime and function not in self.outside
+    def is_own(self, name: str) -> bool:
+        """Whether a function, or data, is the program's own."""
+        return name not in self.runtime and name not in self.outside
 
 
 def asks_for_jump(block: Block) -> bool:

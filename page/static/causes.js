@@ -299,8 +299,9 @@ export class Causes {
     if (called) return `${address} is in ${called}, a function, which has no bytes`;
     const far = ({address: begin, size}) => [BigInt(begin) - number, number - BigInt(begin + size),
       0n].reduce((one, other) => one > other ? one : other);
-    const data = program.data.length
-      ? program.data.reduce((one, other) => far(other) < far(one) ? other : one) : null;
+    // A user knows nothing of what the runtime has beside the program's data.
+    const own = program.data.filter(({name}) => !program.isOther(name));
+    const data = own.length ? own.reduce((one, other) => far(other) < far(one) ? other : one) : null;
     const low = address & 0xffffffffn, name = low === address ? null : this.memory.nameOf(low, move);
     if (name && (!data || far(data) > FAR)) return `its low 32 bits are an address, ${low} (${name})`;
     if (!data) return `${address} is neither in the data nor in the stack`;

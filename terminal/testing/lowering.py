@@ -150,6 +150,22 @@ NOWHERE_LINES: Lines = [
     ("why --inside", ["loadub %at"]), ("bt", ["> 0  $strlen @loop 0"]),
 ]
 
+# An address behind the program's data lies nearer to what the runtime has there.
+BEYOND = """
+data $table = { w 1 2 3 }
+data $text = { b "%d\\n", b 0 }
+export function w $main() {
+@start
+	%far =l add $table, 4000000
+	call $printf(l $text, ..., w 3)
+	%n =w loadw %far
+	ret %n
+}
+"""
+BEYOND_LINES: Lines = [
+    ("c", ["fault dead address 4065536"]), ("why", ["the nearest data is $text, of 4 bytes: $text+3999984", "%far"]),
+]
+
 FLOATS = """
 data $table = { d d_0.5 d_0.25, s s_1.5, w 7 }
 data $text = { b "abc", b 0 }
@@ -464,7 +480,8 @@ OUTPUT_LINES: Lines = [
 
 SESSIONS = {"constants": (CONSTANTS, CONSTANTS_LINES), "output": (OUTPUT, OUTPUT_LINES),
             "absent": (ABSENT, ABSENT_LINES), "writes": (WRITES, WRITES_LINES), "freed": (FREED, FREED_LINES),
-            "left": (LEFT, LEFT_LINES), "nowhere": (NOWHERE, NOWHERE_LINES), "signal": (SIGNAL, SIGNAL_LINES),
+             "left": (LEFT, LEFT_LINES), "nowhere": (NOWHERE, NOWHERE_LINES), "beyond": (BEYOND, BEYOND_LINES),
+             "signal": (SIGNAL, SIGNAL_LINES),
             "floats": (FLOATS, FLOATS_LINES), "singles": (SINGLES, SINGLES_LINES), "called": (CALLED, CALLED_LINES),
             "chain of floats": (chain(OPERATIONS), CHAIN_LINES), "short names": (large(), LARGE_LINES),
             "places": (PLACES, PLACES_LINES)}
