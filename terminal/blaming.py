@@ -6,22 +6,24 @@ import re
 from collections import Counter
 from dataclasses import dataclass
 from itertools import islice
+from typing import Iterator
 
 from .answers import Place, live
 from .causes import Question
 from .expressions import Wrong
 from .frames import allocations_of
-from .levels import CodePlace, own_hits, stop_line
+from .levels import own_hits
+from .samecalls import SameCalls, end_of_call
 from .scratch import Refused
 from .shell import Shell, command
 from .text import LOADED, STORED, Instruction
 from .timeline import Timeline
 from .values import is_stack
-from .ways import blocks_of, last_call
+from .ways import blocks_of
 
 MOST_STEPS = 500
-# How many calls of a function are counted to find the same one in both runs.
-MOST_CALLS = 1000
+# How many times that a call comes to a place are looked at.
+MOST_TIMES = 10_000
 # How many blocks of a call are compared with those of the other run.
 MOST_BLOCKS = 100_000
 # How many steps are shown from the beginning and from the end.
@@ -51,6 +53,8 @@ class Source:
     instruction: Instruction | None = None
     wanted: tuple[int, int] | None = None
     index: int = 0
+    # The state in which what it made was read, of what was stored.
+    read: Timeline | None = None
 
     def told(self) -> str:
         """The move, with its instruction."""
@@ -175,38 +179,23 @@ def of_memory(shell: Shell, question: Question) -> Source:
     causes = shell.causes
     writers, left, _ = causes.writers(question.address, question.count, question.at)
     if not writers or left:
-        return Source(shell, f"{question.text} {SINCE_START}: {causes.data_told(question.address)}", question.at)
+        return Source(shell, f"{question.text} {SINCE_START}: {causes.data_told(question.address)}", question.at,
+                      read=question.at)
     position, span = max(writers, key=lambda each: each[0])
     if question.at.poke_at(position):
-        return Source(shell, "by hand", question.at.at(position))
+        return Source(shell, "by hand", question.at.at(position), read=question.at)
     call, _ = causes.call_in_own(question.at.at(position))
     wanted = question.address + min(span), max(span) - min(span) + 1
-    return Source(shell, "stored", call, causes.innermost(call)[1], wanted)
+    return Source(shell, "stored", call, causes.innermost(call)[1], wanted, read=question.at)
 
 
-def entries(shell: Shell, function: str, last: Timeline, most: int) -> list[int]:
-    """The positions up to a state at which calls of a function began, so many at most."""
-    return times(shell, (function, shell.session.program.functions[function].first, 0), last, most)
-
-
-def times(shell: Shell, place: CodePlace, last: Timeline, most: int) -> list[int]:
-    """The positions up to a state at which the run stood at a place, so many at most, from the first on."""
-    scratch, start = shell.session.scratch, last.at(0)
-    here = scratch.go(start).where()[0]
-    # Where the run begins it doesn't stop.
-    found = [0] if (here.function, here.label, here.index) == place else []
-    for hit in scratch.go(start).hits(True, [stop_line(place)], last=last.position):
-        if hit.stop is None or hit.position > last.position or len(found) >= most:
-            break
-        found.append(hit.position)
-    return found
-
-
-def call_before(shell: Shell, function: str, at: Timeline) -> Timeline:
-    """The last state in which the call of a function that goes on there, or else the last one before, was the innermost
-    frame."""
-    index = next((index for index, frame in enumerate(shell.frames.where(at)) if frame.function == function), None)
-    return last_call(shell, function, at) if index is None else shell.frames.frame(at, index)
+def stood_at(shell: Shell, at: Timeline, place: Place) -> Iterator[int]:
+    """The positions up to a state at which its innermost call stood at a place, the last one first, so many at most."""
+    wanted, here = (place.label, place.index), shell.frames.where(at)[0]
+    if (here.label, here.index) == wanted:
+        yield at.position
+    hits = own_hits(shell.session.program, shell.session.scratch, at, place.function, [wanted])
+    yield from (position for position, stood in islice(hits, MOST_TIMES) if stood == wanted)
 
 
 class Blame:
@@ -219,6 +208,8 @@ class Blame:
         # The states in which the walk has been, in each run.
         self.trail: tuple[list[Timeline], list[Timeline]] = ([], [])
         self.seen: Counter[tuple[int, int, str]] = Counter()
+        self.calls = SameCalls()
+        self.ways: dict[tuple[int, Timeline], list[tuple[int, str]]] = {}
 
     def walked(self, good: Timeline, bad: Timeline) -> str:
         """Follows what differs from the states before the moves by which the runs part; in words, where that ends."""
@@ -259,27 +250,27 @@ class Blame:
         if not common:
             return "they are in no call of the same function"
         one, two = (shell.frames.frame(at, len(each) - common) for shell, at, each in zip(self.shells, states, names))
-        return self.parted(names[0][common - 1], one, two)
+        return self.parted(names[0][common - 1], one, two, ends=states)
 
-    def parted(self, function: str, *states: Timeline) -> tuple[Source, Source] | str:
-        """The first jump by which two calls of a function went other ways, or what they did otherwise in a block."""
+    def parted(self, function: str, *states: Timeline,
+               ends: tuple[Timeline, ...] = ()) -> tuple[Source, Source] | str:
+        """The first jump by which two calls of a function went other ways, or what they did otherwise in a block. The
+        ends are states that may be inside further calls from there."""
         for trail, at in zip(self.trail, states):
             trail.append(at)
-        ways = [blocks_of(shell, shell.session.program.functions[function], at, MOST_BLOCKS)
-                for shell, at in zip(self.shells, states)]
-        for way, shell in zip(ways, self.shells):
-            if not way or way[0][1] != shell.session.program.functions[function].first:
-                return f"the way through {function} is too long to be followed"
-        part = next((index for index, (one, two) in enumerate(zip(*ways)) if one[1] != two[1]), min(map(len, ways)))
+        ways = [self.way(shell, at) for shell, at in zip(self.shells, states)]
+        if not all(self.is_whole(shell, function, way) for shell, way in zip(self.shells, ways)):
+            return f"the way through {function} is too long to be followed"
+        part = part_of(ways)
         if part == min(map(len, ways)):
-            return self.stayed(function, ways, part, *states)
+            return self.stayed(function, ways, part, *states, ends=ends)
         jumps = [at.at(shell.causes.came_by(at, way[part][0])) for shell, at, way in zip(self.shells, states, ways)]
         self.steps.append([f"  after {part} {'block' if part == 1 else 'blocks'} of {function} good went to "
                            f"{ways[0][part][1]}, and bad to {ways[1][part][1]}"])
         return self.sources("jump", *jumps)
 
     def stayed(self, function: str, ways: list[list[tuple[int, str]]], part: int,
-               *states: Timeline) -> tuple[Source, Source] | str:
+               *states: Timeline, ends: tuple[Timeline, ...]) -> tuple[Source, Source] | str:
         """Both came the same way to a block, from which one of them goes on: what the other one does there last, and
         that in the run that goes on."""
         here = [shell.frames.where(at)[0] for shell, at in zip(self.shells, states)]
@@ -290,9 +281,27 @@ class Blame:
         if both[0] and both[1]:
             made = self.sources("there", both[0], both[1])
             if self.is_alike(*made):
-                return made
+                return self.inside(short, made, ends) or made
         self.last = self.sources("there", *states)
         return f"both came the same way to {label} of {function}, and do something else there"
+
+    def inside(self, short: int, made: tuple[Source, Source],
+               ends: tuple[Timeline, ...]) -> tuple[Source, Source] | str | None:
+        """Where one of the runs goes on in a call that both make from there, and that is over in the other one: where
+        the ways through that call parted."""
+        if not ends:
+            return None
+        shell, other, at = self.shells[short], self.shells[1 - short], made[1 - short].at
+        end = shell.frames.before_end(ends[short])
+        frames = shell.frames.where(end)
+        depth = len(frames) - len(shell.frames.where(made[short].at))
+        over = end_of_call(other, at, other.parted) if depth > 0 and other.parted else None
+        if not over or other.frames.where(over)[0].function != frames[depth - 1].function:
+            return None
+        calls = [shell.frames.frame(end, depth - 1), over]
+        self.tell(*made, [])
+        states = calls if short == 0 else calls[::-1]
+        return self.parted(frames[depth - 1].function, *states, ends=(end, over) if short == 0 else (over, end))
 
     def stood(self, side: int, function: str, place: tuple[str, int], way: list[tuple[int, str]], part: int,
               at: Timeline) -> Timeline | None:
@@ -316,41 +325,106 @@ class Blame:
         return next((each for each in self.trail[side] if each.position >= entry.position
                      and frames.where(each)[0].function == function and frames.entry(each) == entry), at)
 
-    def elsewhere(self, made: Source, instead: Source, side: int) -> tuple[Source, Source] | None:
-        """The same store in the other run, if it went to another address there: the one that ran as often before."""
-        place, other = made.place, instead.shell
-        at = place.function, place.label, place.index
-        functions = other.session.program.functions
+    def in_other_round(self, good: Source, bad: Source) -> tuple[Source, Source] | str | None:
+        """Where one instruction ran in other rounds of a loop: where the ways of the calls parted before."""
+        if not self.is_alike(good, bad) or not good.instruction:
+            return None
+        tops = self.top(0, good.at), self.top(1, bad.at)
+        ways = [self.way(shell, at) for shell, at in zip(self.shells, tops)]
+        label, both = good.place.label, [set(shell.session.program.functions[good.place.function].blocks)
+                                         for shell in self.shells]
+        if both[0] != both[1] or not all(self.is_whole(shell, good.place.function, way)
+                                         for shell, way in zip(self.shells, ways)):
+            return None
+        rounds = [sum(position <= source.at.position for position, came in way if came == label)
+                  for way, source in zip(ways, (good, bad))]
+        part = part_of(ways)
+        if rounds[0] == rounds[1] or any(part >= len(way) or way[part][0] > source.at.position
+                                         for way, source in zip(ways, (good, bad))):
+            return None
+        self.tell(good, bad, [])
+        return self.parted(good.place.function, *tops)
+
+    def way(self, shell: Shell, at: Timeline) -> list[tuple[int, str]]:
+        """The blocks of a call up to a state, each with its position."""
+        key = self.shells.index(shell), at
+        if key not in self.ways:
+            function = shell.session.program.functions[shell.frames.where(at)[0].function]
+            self.ways[key] = blocks_of(shell, function, at, MOST_BLOCKS)
+        return self.ways[key]
+
+    @staticmethod
+    def is_whole(shell: Shell, function: str, way: list[tuple[int, str]]) -> bool:
+        """Whether a way begins where its call does."""
+        return bool(way) and way[0][1] == shell.session.program.functions[function].first
+
+    def twins(self, made: Source, other: Shell) -> tuple[Source, Source] | None:
+        """A store and the same one in the other run: the one that ran as often before in the same call."""
+        place, functions = made.place, other.session.program.functions
         if place.function not in functions or place.label not in functions[place.function].blocks or not other.parted:
             return None
-        count = len(times(made.shell, at, made.at, MOST_CALLS))
-        found = times(other, at, other.parted, count)
-        if not 0 < count < MOST_CALLS or len(found) < count:
+        call = self.calls.same(made.shell, made.at, other, other.parted)
+        if not call or not call.is_innermost:
             return None
-        there = other.parted.at(found[-1])
-        pair = self.sources("stored", *((made.at, there) if side == 0 else (there, made.at)))
-        if not self.is_alike(*pair) or pair[0].operands()[1].meaning == pair[1].operands()[1].meaning:
+        count = len(list(stood_at(made.shell, made.at, place)))
+        found = sorted(stood_at(other, call.there, place))
+        if not 0 < count < MOST_TIMES or len(found) < count:
             return None
-        self.steps.append([f"  the {SIDES[1 - side]} run stored it elsewhere"])
+        pair = self.sources("stored", *self.in_order(made.shell, made.at, call.there.at(found[count - 1])))
+        return pair if self.is_alike(*pair) else None
+
+    def elsewhere(self, made: Source, other: Shell) -> tuple[Source, Source] | None:
+        """The same store in the other run, if it went to another address there."""
+        pair = self.twins(made, other)
+        if not pair or pair[0].operands()[1].meaning == pair[1].operands()[1].meaning:
+            return None
+        self.steps.append([f"  the {self.side(other)} run stored it elsewhere"])
         return pair
 
+    def by_others(self, good: Source, bad: Source) -> tuple[Source, Source] | str | None:
+        """Of stores by two instructions: the one that went elsewhere in the other run; or if both runs made one of the
+        two, the other one, which only one run made."""
+        there = self.elsewhere(good, bad.shell) or self.elsewhere(bad, good.shell)
+        if there:
+            return there
+        for one, other in ((good, bad), (bad, good)):
+            if other.read and one.read and self.twins(one, other.shell) and not self.twins(other, one.shell):
+                return self.alone(other, one.shell, one.read)
+        return None
+
+    def in_order(self, shell: Shell, at: Timeline, there: Timeline) -> tuple[Timeline, Timeline]:
+        """A state of a run and one of the other run, that of the good one first."""
+        return (at, there) if shell is self.shells[0] else (there, at)
+
+    def side(self, shell: Shell) -> str:
+        return SIDES[self.shells.index(shell)]
+
     def alone(self, made: Source, other: Shell, until: Timeline) -> tuple[Source, Source] | str:
-        """What one of the runs wrote and the other didn't: where their calls of the function went other ways, of which
-        it is the same one in both."""
-        side = SIDES[self.shells.index(made.shell)]
-        told = f"only the {side} run had written this"
-        function = made.shell.frames.where(made.at)[0].function
-        if any(function in shell.session.program.again for shell in self.shells) or \
-                function not in other.session.program.functions:
+        """What one of the runs wrote and the other didn't: where the ways parted of the call that wrote it and the same
+        call in the other run; or if that has none, of the call from which it comes."""
+        told = f"only the {self.side(made.shell)} run had written this"
+        call = self.calls.same(made.shell, made.at, other, until) \
+            if made.place.function in other.session.program.functions else None
+        if not call:
             return told
-        count = len(entries(made.shell, function, made.at, MOST_CALLS))
-        begun = entries(other, function, until, count + 1)
-        if not 0 < count < MOST_CALLS or len(begun) < count:
-            return told
-        over = call_before(other, function, until.at(begun[count] - 1) if len(begun) > count else until)
-        states = (made.at, over) if made.shell is self.shells[0] else (over, made.at)
         self.steps.append([f"  {told}: #{made.at.position}  {made.written()}"])
-        return self.parted(function, *states)
+        return self.parted(call.function, *self.in_order(made.shell, call.at, call.there),
+                           ends=self.in_order(made.shell, made.at, until))
+
+    def strayed(self, good: Source, bad: Source) -> tuple[Source, Source] | str | None:
+        """Of stores by one instruction in calls that aren't the same in both runs: the one that the other run made
+        elsewhere, or not at all."""
+        if not good.read or not bad.read:
+            # The same call was looked for already.
+            return None
+        call = self.calls.same(good.shell, good.at, bad.shell, bad.read)
+        if call and call.is_innermost and bad.shell.frames.entry(call.there) == bad.shell.frames.entry(bad.at):
+            return None
+        there = self.elsewhere(good, bad.shell) or self.elsewhere(bad, good.shell)
+        if there:
+            return there
+        one, none = (bad, good) if call and call.is_innermost else (good, bad)
+        return self.alone(one, none.shell, none.read or none.at)
 
     def step(self, good: Source, bad: Source) -> tuple[Source, Source] | str:
         """The next cause of what differs, or by what the runs part."""
@@ -358,15 +432,18 @@ class Blame:
             one = good if good.instruction else bad
             none = bad if one is good else good
             if one.kind == "stored" and SINCE_START in none.kind:
-                return self.elsewhere(one, none, 0 if one is good else 1) or self.alone(one, none.shell, none.at)
+                return self.elsewhere(one, none.shell) or self.alone(one, none.shell, none.read or none.at)
             if UNSET in none.kind and good.place.function == bad.place.function:
                 return self.parted(good.place.function, self.top(0, good.at), self.top(1, bad.at))
             return "what differs was made otherwise"
-        if good.kind == bad.kind == "stored" and not (self.is_alike(good, bad) and
-                                                      good.place.index == bad.place.index):
-            there = self.elsewhere(good, bad, 0) or self.elsewhere(bad, good, 1)
+        if good.kind == bad.kind == "stored":
+            is_one = self.is_alike(good, bad) and good.place.index == bad.place.index
+            there = self.strayed(good, bad) if is_one else self.by_others(good, bad)
             if there:
                 return there
+        there = self.in_other_round(good, bad)
+        if there:
+            return there
         here = good.place, bad.place
         blocks = [shell.session.program.functions[here[0].function].blocks if here[0].function in
                   shell.session.program.functions else {} for shell in self.shells]
@@ -417,7 +494,7 @@ class Blame:
         place, states = (here[0].label, here[0].index), []
         for shell, source in zip(self.shells, (good, bad)):
             hits = own_hits(shell.session.program, shell.session.scratch, source.at, here[0].function, [place])
-            found = [position for position, stood in islice(hits, MOST_CALLS) if stood == place]
+            found = [position for position, stood in islice(hits, MOST_TIMES) if stood == place]
             states.append(source.at.at(min([source.at.position, *found])))
         self.last = self.sources(good.kind, *states)
         return self.last
@@ -439,6 +516,11 @@ class Blame:
         else:
             told = [f"  {side}: #{move}  {line}" for side, move, line in zip(SIDES, moves, written)]
         self.steps.append([*told, *(f"    {differing(one.text, two.text)}" for one, two in pairs)])
+
+
+def part_of(ways: list[list[tuple[int, str]]]) -> int:
+    """The first block in which two ways differ, or the number of those that both have."""
+    return next((index for index, (one, two) in enumerate(zip(*ways)) if one[1] != two[1]), min(map(len, ways)))
 
 
 def made_by(shell: Shell, question: Question) -> Source:

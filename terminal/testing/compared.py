@@ -116,6 +116,17 @@ PLANTED = (("squares", (), 11, "cslew", "csltw"), ("squares", (), 39, "%i, 1", "
            ("checksum", (), 38, "@body, @end", "@end, @body"),
            ("checksum", (), 78, "add", "sub"), ("digits", (), 18, "10", "11"), ("queens", (), 62, "%row, 6", "%row, 7"),
            ("queens", (), 72, "csltw", "cslew"), ("strayed", (), 10, "4", "8"))
+# The same in texts that call themselves, where only the last events are compared, so that the walk is long: of the
+# calls of a function those that are the same are found on both sides. Faults inside calls that are over in the other
+# run, stores that only one run makes or that go elsewhere, loops that go on too long or are left too soon.
+ENDS = ("--events", "output,end")
+RECURSIVE = (("merge", ENDS, 29, "add", "sub"), ("merge", ENDS, 55, "%k, 1", "%k, 2"),
+             ("merge", ENDS, 63, "csltl", "cslel"), ("merge", ENDS, 67, "add", "sub"),
+             ("quick", ENDS, 6, "%i, 4", "%i, 5"), ("quick", ENDS, 21, "csgel", "csgtl"),
+             ("quick", ENDS, 37, "@change, @next", "@next, @change"), ("quick", ENDS, 48, "%i, 1", "%i, 2"),
+             ("tree", ENDS, 11, "%key", "77"), ("tree", ENDS, 66, "add", "sub"),
+             ("tree", ENDS, 71, "@loop, @end", "@end, @loop"), ("memo", ENDS, 25, "%n, 3", "%n, 4"),
+             ("memo", ENDS, 27, "@zero, @go", "@go, @zero"))
 
 
 # Of three stores that of the second round goes to where the result is read.
@@ -127,7 +138,8 @@ STRAYED = ("data $a = { w 1, w 2, w 3, w 4 }\nexport function w $main() {\n@star
 
 def blamed(program: str, example: str, words: tuple[str, ...], line: int, old: str, new: str) -> str | None:
     """A mistake in one line is found: `blame` ends at that line, in both texts."""
-    text = STRAYED if example == "strayed" else (EXAMPLES / f"{example}.ssa").read_text()
+    own = FOLDER / "testing" / "recursive" / f"{example}.ssa"
+    text = STRAYED if example == "strayed" else (own if own.exists() else EXAMPLES / f"{example}.ssa").read_text()
     lines = text.split("\n")
     if lines[line - 1].count(old) != 1:
         return f"line {line} of {example} has no {old}"
