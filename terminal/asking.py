@@ -5,19 +5,16 @@ import pathlib
 from itertools import zip_longest
 
 from .accesses import MOST_COUNTED, Access
-from .answers import COMMANDS as LANGUAGE, Place, read_place
+from .answers import COMMANDS as LANGUAGE, read_place
 from .causes import MOST_BYTES_ASKED, Cause, Question
-from .conditions import quick_test
-from .expressions import Node, Unset, Wrong, as_bytes, evaluate, fixed, parts_of, temporaries_of
+from .expressions import Wrong, as_bytes
 from .pipe import Pipe
-from .scratch import Refused, frames_of
+from .scratch import Refused
 from .session import MOVES
 from .shell import Shell, command
-from .stops import Answered, questions_of
 from .text import Operand
 from .timeline import Poke, Timeline, common
 from .values import BITS, FLOATS, brief
-from .waiting import Interrupted
 from .ways import why_not
 
 MOST_SHOWN = 1000
@@ -177,119 +174,6 @@ def writers(shell: Shell, rest: str) -> None:
     """Lists all stores, blits and pokes of the run that wrote there, also those that changed nothing, with
     positions."""
     accesses(shell, rest, True)
-
-
-@command("when", "when CONDITION", "expression", is_repeated=False)
-def when(shell: Shell, rest: str) -> None:
-    """Lists the positions at which a condition of this function's temporaries and of memory begins to hold, and ceases
-    to. Of a recursive function the innermost frame counts. Where a value is unset or dead it doesn't hold."""
-    if not rest:
-        raise Wrong(f"when CONDITION was expected; the session stands at #{shell.session.place.position}")
-    node = shell.parsed(rest)
-    program, frames = shell.session.program, shell.session.frames()
-    known = questions_of(node, program)
-    if known is None or any(part.kind == "word" for part in parts_of(node)):
-        raise Wrong(f"{rest}: temporaries of one function and memory at fixed addresses were expected, and neither "
-                    "depth nor position")
-    names = temporaries_of(node)
-    if names and not frames:
-        raise Refused("the run is over: go back to a frame of the function that is meant")
-    function = frames[shell.session.selected].function if frames else ""
-    for name in names:
-        shell.temporary(name)
-    stops = [f"watch {function} {name}" for name in names]
-    stops += [f"watch {FLOATS.get(part.text, part.text)} {fixed(part.parts[0], program.addresses)}"
-              for part in parts_of(node) if part.kind == "memory"]
-    if not stops:
-        raise Wrong(f"{rest}: a condition of temporaries or memory was expected")
-    run = whole_run(shell)
-    bounds = told_bounds(shell, run)
-    # Where only temporaries of a function that is called once at a time count, a place tells whether it has a frame.
-    is_plain = len(stops) == len(names) and function not in program.again
-    questions = known if is_plain else ["where", *known]
-    low, spans = held_spans(shell, run, stops, questions, node, function if names else "")
-    for begin, end in spans[:MOST_SHOWN]:
-        shell.say(f"holds from #{begin}" + (f", no longer from #{end}" if end is not None else " on"))
-    stopped = f"; only from #{low} on, since Ctrl-C stopped the search" if low is not None else ""
-    shell.say(f"{counted(len(spans), 'time')} {bounds}{stopped}")
-
-
-def held_spans(shell: Shell, run: Timeline, stops: list[str], questions: list[str], node: Node,
-               function: str) -> tuple[int | None, list[tuple[int, int | None]]]:
-    """The spans of positions in which a condition holds, by going back along the changes of what it is about; and how
-    far back that went, which is all of the run unless Ctrl-C is pressed."""
-    scratch = shell.session.scratch.go(run)
-    readings = Readings(shell, node, questions, function, run)
-    changes = [(run.position, readings.at_end())]
-    low: int | None = None
-    try:
-        for hit in scratch.hits(False, stops, questions):
-            changes.append((hit.position, readings.holds(hit.place, hit.answers)))
-    except Interrupted:
-        shell.waiting.heed()
-        low = changes[-1][0]
-    spans: list[tuple[int, int | None]] = []
-    end: int | None = None
-    was_held = False
-    for position, known in changes:
-        is_held = readings.in_caller(position) if known is None else known
-        if was_held and not is_held:
-            spans.append((position + 1, end))
-        elif is_held and not was_held:
-            end = None if position == run.position else position + 1
-        was_held = is_held
-    return low, (spans + [(low or 0, end)] * was_held)[::-1]
-
-
-class Readings:
-    """Whether a condition holds at the changes of what it is about: a temporary of a function reads what it is in the
-    innermost frame of that function, which needn't be the innermost frame of all."""
-
-    def __init__(self, shell: Shell, node: Node, questions: list[str], function: str, run: Timeline):
-        self.shell, self.node, self.questions, self.function, self.run = shell, node, questions, function, run
-        self.scratch, self.program = shell.session.scratch, shell.session.program
-        classes = self.program.functions[function].temporaries if function else {}
-        self.quick = quick_test(node, questions, classes, self.program.addresses)
-
-    def at_end(self) -> bool | None:
-        """Of the state in which the run ends, where the process stands."""
-        if self.function:
-            return None if any(frame.function == self.function for frame in self.scratch.where()) else False
-        return self.value(self.scratch.place, dict(zip(self.questions, self.scratch.ask(*self.questions))))
-
-    def holds(self, place: Place, answers: list[list[str]]) -> bool | None:
-        """Of a state whose answers are known; None where the frame that is meant isn't the innermost one."""
-        is_there = not self.function or place.function == self.function
-        if is_there and self.quick and not self.quick(answers):
-            return False
-        known = dict(zip(self.questions, answers))
-        if not is_there:
-            return None if self.is_in_caller(place, known) else False
-        return self.value(place, known)
-
-    def is_in_caller(self, place: Place, known: dict[str, list[str]]) -> bool:
-        """Whether a frame of the function calls the one of a place in another function."""
-        if "where" in known:
-            return any(frame.function == self.function for frame in frames_of(known["where"]))
-        # A temporary changes here by the return into its frame, or by the call that makes it.
-        instruction = self.program.functions[place.function].at(place.label, place.index)
-        return instruction.operation == "ret"
-
-    def value(self, place: Place, known: dict[str, list[str]]) -> bool:
-        try:
-            return evaluate(self.node, Answered(self.program, place, known, self.scratch.ask)).number != 0
-        except Unset:
-            return False
-
-    def in_caller(self, position: int) -> bool:
-        """The temporaries of a frame that isn't the innermost are those of the state before its call."""
-        at = self.run.at(position)
-        frames = self.scratch.go(at).where()
-        known = dict(zip(self.questions, self.scratch.ask(*self.questions)))
-        index = next(index for index, frame in enumerate(frames) if frame.function == self.function)
-        names = [f"print {name}" for name in temporaries_of(self.node)]
-        known.update(zip(names, self.scratch.go(self.shell.frames.frame(at, index)).ask(*names)))
-        return self.value(Place(position, self.function), known)
 
 
 @command("compare", "compare FILE", "file", is_repeated=False)

@@ -120,7 +120,7 @@ def quickly(condition: Node, questions: list[str], shell: Shell, function: Funct
     if test is None:
         return None
     known = test
-    return lambda _, answers: known(answers)
+    return lambda _, line, answers: known(answers)
 
 
 def longest(shell: Shell, run: Timeline) -> list[Span]:

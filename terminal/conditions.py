@@ -7,7 +7,7 @@ from __future__ import annotations
 
 from typing import Any, Callable, Mapping
 
-from .expressions import BINARY, Node, Unset, Wrong, fixed, is_fixed
+from .expressions import BINARY, Node, Unset, Wrong, fixed, is_fixed, parts_of
 from .values import BITS, BYTES, FLOATS
 
 Answers = list[list[str]]
@@ -15,6 +15,8 @@ Test = Callable[[Answers], bool]
 # Operations that Python's own do for whole numbers; the others are called, since some of them fail.
 INLINE = frozenset("+-*&|^")
 COMPARED = frozenset(("<", "<=", ">", ">="))
+# Expressions have no values of over 128 bits, which these could give.
+WIDENING = frozenset(("*", "<<"))
 
 
 class Slow(Exception):
@@ -32,6 +34,11 @@ def quick_test(node: Node, questions: list[str], classes: Mapping[str, str],
     exec(f"def holds(answers):\n  try:\n    return ({source}) != 0\n  except wrong:\n    return False\n", names)
     holds: Test = names["holds"]
     return holds
+
+
+def is_exact(node: Node) -> bool:
+    """Whether a quick test of a condition holds only if the condition does: numbers of any size come of these alone."""
+    return not any(part.text in WIDENING for part in parts_of(node))
 
 
 def bytes_in(line: str) -> int:

@@ -1,3 +1,3 @@
 """All modules that register commands of the prompt."""
-from . import (asking, blaming, calling, comparing, counting, files, habits, looking, moving, searching,  # noqa: F401
-               sources, stopping, suspecting, tui)  # noqa: F401
+from . import (asking, blaming, calling, comparing, counting, files, habits, holds, looking, moving,  # noqa: F401
+               searching, sources, stopping, suspecting, tui)  # noqa: F401

@@ -39,8 +39,8 @@ class Refused(Exception):
 
 
 Answer = TypeVar("Answer")
-# Whether a hit of a stop can count, by the answers there.
-Counts = Callable[[int, list[list[str]]], bool]
+# Whether a hit of a stop can count, by its place line and the answers there.
+Counts = Callable[[int, str, list[list[str]]], bool]
 
 
 @dataclass(frozen=True)
@@ -300,7 +300,7 @@ class Scratch:
             passed: Hit | None = None
             for reason, line, answers in stops_told(text, many):
                 stop = indices.get(reason)
-                if counts and stop is not None and not counts(stop, answers):
+                if counts and stop is not None and not counts(stop, line, answers):
                     passed = Hit(0, stop, line, answers)
                     continue
                 passed = None
@@ -328,7 +328,7 @@ class Scratch:
         if last is not None and (self.timeline.position >= last) == is_forward:
             return True
         self.waiting.stop_if_pressed()
-        self.waiting.tell(self.timeline.position)
+        self.waiting.tell(self.timeline.position, target=last)
         if is_oldest:
             self.begin_anew()
         return False

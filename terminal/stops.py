@@ -207,7 +207,7 @@ class Filter:
             known = [test for test in found if test]
             tests.append(known if len(known) == len(found) else None)
 
-        def can_count(index: int, answers: list[list[str]]) -> bool:
+        def can_count(index: int, _: str, answers: list[list[str]]) -> bool:
             mine = tests[index] if index < len(tests) else None
             return mine is None or any(test(answers) for test in mine)
         return can_count if any(tests) else None

@@ -5,8 +5,8 @@ from __future__ import annotations
 import random
 
 from terminal.answers import Place
-from terminal.conditions import quick_test
-from terminal.expressions import LEVELS, Node, Unset, evaluate, parse, parts_of
+from terminal.conditions import is_exact, quick_test
+from terminal.expressions import LEVELS, Node, Unset, evaluate, parse
 from terminal.stops import Answered, questions_of
 from terminal.text import Program
 
@@ -67,8 +67,7 @@ def condition_faults(seed: int) -> list[str]:
         wanted = is_held(node, program, dict(zip(questions, answers)))
         held += wanted
         # Values of over 128 bits count as unset: only then may the quick test hold too often.
-        is_wide = any(part.text in ("*", "<<") for part in parts_of(node))
-        if test(answers) != wanted and (wanted or not is_wide):
+        if test(answers) != wanted and (wanted or is_exact(node)):
             found.append(f"{text} with {answers}: {not wanted} by the quick test")
     if not LEAST < held / CASES < 1 - LEAST:
         found.append(f"{held} of {CASES} conditions hold")

@@ -11,9 +11,9 @@ from typing import Callable
 
 from check.shadow import Object
 from terminal.answers import Place, read_place, read_value
-from terminal.asking import held_spans
 from terminal.causes import Question
 from terminal.expressions import parse
+from terminal.holds import Held, Readings, forward, held_spans
 from terminal.pipe import Pipe
 from terminal.scratch import FAR, SLICE, Launch, frames_of
 from terminal.shell import Shell
@@ -255,13 +255,22 @@ def condition_faults(debugger: str, file: str, seed: int, questions: int) -> lis
                 name = chosen.choice(sorted(values))
                 function = state.frames[0].function
                 node = parse(f"u({name}) == {values[name]}")
-                _, spans = held_spans(shell, Timeline(len(trace.states) - 1), [f"watch {function} {name}"],
-                                      ["where", f"print {name}"], node, function)
                 wanted = spans_of(trace, function, name, values[name])
-                found.append(None if spans == wanted else f"{name} of {function}: {spans} and not {wanted}")
+                run, stops = Timeline(len(trace.states) - 1), [f"watch {function} {name}"]
+                for find, more in ways_to_find(shell, function):
+                    spans, _ = find(Readings(shell, node, [*more, f"print {name}"], function, run), stops)
+                    found.append(None if spans == wanted else
+                                 f"{name} of {function}, {find.__name__}: {spans} and not {wanted}")
         return [fault for fault in found if fault]
     finally:
         shell.session.close()
+
+
+def ways_to_find(shell: Shell, function: str) -> list[tuple[Callable[[Readings, list[str]], tuple[list[Held], str]],
+                                                            list[str]]]:
+    """How the spans of a condition are found, and what is asked besides."""
+    back = (held_spans, ["where"])
+    return [back] if function in shell.session.program.again else [back, (forward, list[str]())]
 
 
 def spans_of(trace: Trace, function: str, name: str, value: int) -> list[tuple[int, int | None]]:
