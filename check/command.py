@@ -15,6 +15,7 @@ from terminal.pipe import Pipe
 from terminal.scratch import SLICE, Launch
 from terminal.sourcemap import SourceMap
 from terminal.text import Program
+from terminal.typed import as_typed
 
 from . import fast
 from .ends import fault_error, lowering_error, refusal_error
@@ -309,12 +310,16 @@ def run_of(launch: Launch, table: Table, limit: int) -> Gathering:
     return gathered
 
 
+def tell(text: str, out: TextIO) -> None:
+    print(as_typed(text), file=out)
+
+
 def refused(pipe: Pipe, asked: Asked, source: bytes, out: TextIO) -> int:
     """Tells why the debugger took no program. What is wrong with its words it has said itself."""
     is_plain = asked.format == "text" or any(not line.startswith("refused: ") for line in pipe.loaded)
     if is_plain or not pipe.loaded:
         for line in pipe.loaded:
-            print(refusal(line, asked.file, source, asked.lowered), file=out)
+            tell(refusal(line, asked.file, source, asked.lowered), out)
     else:
         errors = [refusal_error(line, source) for line in pipe.loaded]
         asked.file = first_text(asked.lowered) or asked.file if not errors[0].line else asked.file
@@ -325,7 +330,7 @@ def refused(pipe: Pipe, asked: Asked, source: bytes, out: TextIO) -> int:
 def lowering_refused(said: str, asked: Asked, out: TextIO) -> int:
     """Tells why texts weren't lowered, as the lowering says it, or in the form for editors or machines."""
     if asked.format == "text":
-        print(said, end="", file=sys.stderr)
+        print(as_typed(said), end="", file=sys.stderr)
     else:
         asked.file, error = lowering_error(said.strip(), asked.lowered)
         tell_formatted(asked, [], [error], lambda line: "", out)
@@ -336,10 +341,10 @@ def tell_formatted(asked: Asked, found: list[Suspicion], errors: list[Error], so
                    out: TextIO) -> None:
     """Suspicions and errors in the form for editors or machines."""
     if asked.format == "json":
-        print(as_sarif(found, errors, asked.file, version(), source), file=out)
+        tell(as_sarif(found, errors, asked.file, version(), source), out)
         return
     for line in (*as_gnu(found, asked.file, source), *(error.gnu(asked.file, source) for error in errors)):
-        print(line, file=out)
+        tell(line, out)
 
 
 def part_of(gathered: Gathering, letter: bytes) -> bytes:
@@ -357,7 +362,7 @@ def told(outcome: Outcome, table: Table, launch: Launch, asked: Asked, out: Text
     else:
         for each in outcome.found:
             lines = [*each.lines(source(each.instruction.line)), *each.call_lines(others, source)]
-            print("\n".join(lines), file=out)
+            tell("\n".join(lines), out)
         print(summary(outcome.found, outcome.moves, outcome.end, outcome.full), file=out)
     out.flush()
     return outcome.status

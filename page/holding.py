@@ -20,6 +20,7 @@ from terminal.scratch import KEEPING, Launch, Refused
 from terminal.session import Session
 from terminal.text import Program
 from terminal.timeline import Poke, Timeline
+from terminal.typed import as_typed
 from terminal.waiting import Waiting
 
 from .before import Before
@@ -128,7 +129,7 @@ class Held:
         return " ".join(pathlib.Path(name).name for name in names)
 
     def command(self) -> str:
-        return f"./qrev {shlex.join([*self.named, *self.launch.words, *self.texts])}"
+        return f"./qrev {shlex.join([*map(as_typed, self.named), *self.launch.words, *self.texts])}"
 
     # The session.
 

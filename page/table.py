@@ -10,6 +10,7 @@ from typing import TYPE_CHECKING, Any, Callable, Iterable
 
 from terminal.sourcemap import ESCAPE, SourceMap, unescaped
 from terminal.text import BUILT_IN, STACK, STACK_BYTES, Block, Function, Instruction, Program
+from terminal.typed import as_typed
 
 if TYPE_CHECKING:
     from .lowering import Lowering
@@ -40,7 +41,8 @@ class Origins:
         return places
 
     def told(self, count: int) -> list[list[list[Any]]]:
-        return (self.lines + [[]] * count)[:count]
+        shown = [[[as_typed(place[0]), *place[1:]] for place in places] for places in self.lines]
+        return (shown + [[]] * count)[:count]
 
     def texts(self) -> dict[str, list[str]]:
         """The lines of the files that are named, where they can be read from here."""
@@ -49,7 +51,7 @@ class Origins:
             try:
                 path = self.map.path_of(file)
                 if path and path.stat().st_size <= MOST_SOURCE:
-                    found[file] = path.read_text(errors="replace").split("\n")
+                    found[as_typed(file)] = path.read_text(errors="replace").split("\n")
             except OSError:
                 continue
         return found

@@ -21,6 +21,7 @@ from .screen import Screen
 from .session import Session
 from .sourcemap import SourceMap
 from .timeline import Timeline
+from .typed import as_typed
 from .values import BITS, FLOATS, FORMATS, as_float, bits_of, formatted, remarks, unsigned
 from .waiting import Interrupted, Waiting
 
@@ -149,7 +150,7 @@ class Shell:
     # What is said.
 
     def say(self, *lines: str) -> None:
-        self.output.say(*lines)
+        self.output.say(*map(as_typed, lines))
 
     def begin(self) -> None:
         """What is said before the first line."""

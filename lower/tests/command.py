@@ -177,10 +177,17 @@ def piped_faults(wrapper: Wrapper) -> Results:
         writer.start()
         run = wrapper.run("--prompt", pipe.name, script="c\n")
         writer.join()
+        # It is called by its own name, and not by that of what is kept of it.
+        told = run.stdout + run.stderr
         yield f"command/the prompt of a pipe, {name}", differ(
-            "end", True, end[1:] in run.stdout)
+            "end", (True, True, False), (end[1:] in told, f"source: {pipe.name}:" in told or name == "plain",
+                                         str(wrapper.top) in told))
     run = wrapper.run("--check", "-", "--format", "gnu", script=PLAIN.replace("%x", "%y", 1))
-    yield "command/a refusal of -", differ("run", (1, True), (run.returncode, "/stdin:4: error: " in run.stdout))
+    yield "command/a refusal of -", differ(
+        "run", (1, True), (run.returncode, run.stdout.startswith("/dev/stdin:4: error: ")))
+    run = wrapper.run("--check", "-", script=WHOLE.replace("ret %", "ret %no.", 1))
+    yield "command/a refusal of - by lowering", differ(
+        "run", (1, True), (run.returncode, run.stderr.startswith("/dev/stdin:")))
     run = wrapper.run("-", script="continue\n")
     yield "command/a script of -", differ("status", 2, run.returncode)
     yield "command/what is kept of pipes", differ("files", [], sorted(os.listdir(wrapper.top / "tmp")))
