@@ -152,10 +152,20 @@ class Shell:
     def say(self, *lines: str) -> None:
         self.output.say(*map(as_typed, lines))
 
+    def loaded_told(self, line: str) -> str:
+        """The line about the loaded text, where it isn't a function of the runtime that isn't in SSA form: of the
+        program's own then only those that stand behind it may not be."""
+        about, _, form = line.partition(" ssa ")
+        name, functions = form.split(" ")[1] if form.startswith("no ") else "", list(self.session.program.functions)
+        if name not in functions or self.lowered.is_own(name):
+            return line
+        is_known = not any(self.lowered.is_own(behind) for behind in functions[functions.index(name):])
+        return f"{about} ssa yes" if is_known else about
+
     def begin(self) -> None:
         """What is said before the first line."""
         try:
-            self.say(*self.session.pipe.loaded[:1])
+            self.say(*map(self.loaded_told, self.session.pipe.loaded[:1]))
             self.show()
             self.say("`help` lists the commands")
         except Quit:

@@ -209,8 +209,14 @@ def wrapper_faults(running: Running) -> Results:
             run = wrapper.run("--lower", "a.ssa", "b.ssa", "42", *words)
             yield f"command/--lower with {words}", differ("run", (0, ['out 12 "argument 42\\012"', ""], ""),
                                                           (run.returncode, run.stdout.split("\n")[-2:], run.stderr))
-        run = wrapper.run("--lower", "b.ssa", "9", "--entry", "half")
-        yield "command/--lower with an entry", differ("end", True, run.stdout.split("\n")[-3].endswith(" done 4"))
+        # The name of a function may have its sigil.
+        for words in (["--entry", "half"], ["--entry", "$half"], ["--entry=$half"]):
+            run = wrapper.run("--lower", "b.ssa", "9", *words)
+            yield f"command/--lower with {words}", differ("end", True, run.stdout.split("\n")[-3].endswith(" done 4"))
+        # Each temporary of these texts has one definition, whatever the runtime does.
+        run = wrapper.run("--prompt", "--lower", "a.ssa", "b.ssa", "42", script="q\n")
+        yield "command/the form of what is the program's own", differ(
+            "line", True, run.stdout.split("\n")[0].endswith(" data bytes ssa yes"))
         (wrapper.top / "echo.ssa").write_text(ECHO)
         run = wrapper.run("--lower", "echo.ssa", "--", "a", "1", "--b c", "", "--", "-o")
         yield "command/--lower with texts for main", differ("output", 'out 23 "echo|a|1|--b c||--|-o|\\012"',
