@@ -76,14 +76,18 @@ class App {
     byId("poke").hidden = byId("script").hidden = !this.source.isLive;
   }
 
-  /** Takes the run from its source, and shows it: its calls while it comes, and then all. */
-  async load(cursor = null, was = "", isUndone = false) {
-    const begun = performance.now(), before = {run: this.run, memory: this.memory, isInside: !this.isFolded};
+  /** Takes the run from its source, and shows it: its calls while it comes, and then all. Of several the one that was asked for
+   * last counts. The cursor is a move from a base on, if there is one: the window that comes may begin elsewhere by now. */
+  async load(cursor = null, was = "", isUndone = false, base = null) {
+    const begun = performance.now(), number = this.loads = (this.loads ?? 0) + 1, before = {run: this.run, memory: this.memory, isInside: !this.isFolded};
     if (!this.long) byId("progress").hidden = false;
     const run = await this.source.run(this.program, growing => {
+      if (number !== this.loads) return;
       if (!this.long) this.gathered(growing, begun);
       this.growing(growing);
     });
+    if (number !== this.loads) return;
+    if (base !== null) cursor = Math.max(0, Math.min(run.moves, base + cursor - run.base));
     if (!this.long) byId("progress").hidden = true;
     this.run = run;
     this.memory = new Memory(run);
@@ -179,7 +183,10 @@ class App {
 
   /** Takes the overview as far as it has come, and goes on until it is whole. */
   async overviewed() {
+    const number = this.overviews = (this.overviews ?? 0) + 1;
     const told = await (await this.source.ask("api/overview")).json(), bar = byId("progress");
+    // An answer that comes late may be about the run before.
+    if (number !== this.overviews) return;
     this.long = {...told, mostMoves: told.most, most: told.stacks.reduce((most, stack) => Math.max(most, stack.length), 1)};
     if (this.run?.isComplete) {
       this.header("");
@@ -203,8 +210,9 @@ class App {
       while (this.wished !== null) {
         const there = this.aim = this.wished;
         this.wished = null;
-        const {base} = await (await this.source.ask("api/window", {position: there})).json();
-        await this.load(there - base);
+        const {loads} = this, {base} = await (await this.source.ask("api/window", {position: there})).json();
+        // A run that was loaded meanwhile is one that a value by hand led to, and stays.
+        if (loads === this.loads) await this.load(there - base, "", false, base);
       }
     } catch (error) {
       this.say(error.message);
@@ -503,7 +511,9 @@ class App {
   /** Shows the run that a value by hand leads to, or the one before it. */
   async changed({base}, position, was, isUndone = false) {
     if (this.long) await this.overviewed();
-    await this.load(position - base, was, isUndone);
+    await this.load(position - base, was, isUndone, base);
+    // Another window may have come between.
+    if (this.long) await this.goTo(position);
   }
 
   /** Takes the last value by hand back. */

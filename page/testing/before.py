@@ -195,6 +195,48 @@ def by_hand(program: str) -> str | None:
             browser.close()
 
 
+# Holds back the first answer to a request until it is let go.
+HELD = """(path => {
+  const ask = app.source.ask.bind(app.source), gate = new Promise(done => window.letGo = done);
+  let isFirst = true;
+  app.source.ask = async (asked, ...words) => {
+    const answer = await ask(asked, ...words);
+    if (asked !== path || !isFirst) return answer;
+    isFirst = false;
+    await gate;
+    return answer;
+  };
+})"""
+LATE = {"overview": "window.late = app.overviewed()", "window": "window.late = app.reach(200)"}
+
+
+def late_answers(program: str) -> str | None:
+    """An answer about the run before, or about another window, that comes after a value was set by hand: the page shows
+    the run that the value leads to."""
+    with tempfile.TemporaryDirectory(prefix="page-") as folder:
+        file = pathlib.Path(folder) / "far.ssa"
+        file.write_text(FAR)
+        browser, chosen = Browser(), random.Random(9)
+        try:
+            for what, asked in LATE.items():
+                with Serving(program, str(file), options=("--most", MOST)) as serving:
+                    browser.open(serving.address)
+                    browser.run(WHOLE)
+                    browser.run(f"{COMPARED}(30000)")
+                    browser.run(f"{HELD}('api/{what}')")
+                    browser.run(f"(() => {{ {asked}; }})()")
+                    # A value by hand is a move, so the new run has another length at least.
+                    said = browser.run(f"{MADE}('set %i 11990')")
+                    browser.run("(async () => { window.letGo(); await window.late; })()")
+                    fault = "" if said.startswith("on the way") else said
+                    fault = fault or run_fault(browser, program, str(file), chosen, [(30_000, "set %i 11990")])
+                    if fault:
+                        return f"a late {what}: {fault}"
+            return "; ".join(browser.errors()) or None
+        finally:
+            browser.close()
+
+
 def changed_fault(browser: Browser, chosen: random.Random, pokes: list[tuple[int, str]], is_undone: bool) -> str | None:
     """Sets a value, or takes the last one back; keeps what was done."""
     if is_undone:
@@ -230,4 +272,5 @@ def run_fault(browser: Browser, program: str, file: str, chosen: random.Random,
 
 
 CASES: dict[str, Callable[[str], str | None]] = {"causes before a window": of_window,
-                                                 "values by hand in a long run": by_hand}
+                                                 "values by hand in a long run": by_hand,
+                                                 "answers that come late": late_answers}
