@@ -480,8 +480,8 @@ OUTPUT_LINES: Lines = [
 
 SESSIONS = {"constants": (CONSTANTS, CONSTANTS_LINES), "output": (OUTPUT, OUTPUT_LINES),
             "absent": (ABSENT, ABSENT_LINES), "writes": (WRITES, WRITES_LINES), "freed": (FREED, FREED_LINES),
-             "left": (LEFT, LEFT_LINES), "nowhere": (NOWHERE, NOWHERE_LINES), "beyond": (BEYOND, BEYOND_LINES),
-             "signal": (SIGNAL, SIGNAL_LINES),
+            "left": (LEFT, LEFT_LINES), "nowhere": (NOWHERE, NOWHERE_LINES), "beyond": (BEYOND, BEYOND_LINES),
+            "signal": (SIGNAL, SIGNAL_LINES),
             "floats": (FLOATS, FLOATS_LINES), "singles": (SINGLES, SINGLES_LINES), "called": (CALLED, CALLED_LINES),
             "chain of floats": (chain(OPERATIONS), CHAIN_LINES), "short names": (large(), LARGE_LINES),
             "places": (PLACES, PLACES_LINES)}
