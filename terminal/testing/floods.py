@@ -42,19 +42,19 @@ ENOUGH, SHOWN = 100_000, 1000
 
 def interrupted_question(program: str) -> str | None:
     """Ctrl-C in a question about millions of changes shows what was found up to there. A round takes two moves behind
-    the first one, so %i is 2,999,990 from #5999981 on."""
+    the first one, so %i is 10 from #21 on."""
     with tempfile.TemporaryDirectory(prefix="endless-") as folder:
         session = Held(program, written(folder, "endless.ssa", ENDLESS), "--limit", "6000001")
         try:
-            session.type("when %i >= 2999990\n")
+            session.type("when %i >= 10\n")
             time.sleep(LOOKED_FOR)
             session.type("\x03")
             answer = session.wait_for(PROMPT)
             session.settle(READY)
-            low = re.search(r"; only from #(\d+) on, since Ctrl-C stopped the search", answer)
-            if not low or not 0 < int(low[1]) < 5_999_981:
+            high = re.search(r"; only up to #(\d+), since Ctrl-C stopped the search", answer)
+            if not high or not 21 < int(high[1]) < 6_000_001:
                 return f"Ctrl-C shows {answer!r}"
-            return missing(answer, "holds from #5999981 on", "1 time in the run from #0 to #6000001 $main @loop 0") or \
+            return missing(answer, "holds from #21 on", "1 time in the run from #0 to #6000001 $main @loop 0") or \
                 missing(session.do("s"), "#1 $main")
         finally:
             session.close()
