@@ -413,7 +413,9 @@ def refused(at: Lowering) -> None:
     # What is too large is refused by the line of the text as it was written.
     at.fails(at.again("large.ssa"), "refused: Y1 line 17")
     said = at.prompt("--lower", "large.ssa").stderr
-    expect("2000000 bytes of data" in said and at.next_event("output")["output"] == said, f"{said} isn't told")
+    told = [at.next_event("output")["output"] for _ in said.splitlines()]
+    expect("2000000 bytes of data" in said and "2000000 of $big" in said and "".join(told) == said,
+           f"{said} isn't told")
     body = at.next_event("output")
     expect((body["output"], body["line"], body["source"]["name"]) == ("refused: Y1 line 17\n", 17, "large.ssa"),
            f"{body}")
