@@ -120,10 +120,11 @@ class Standard:
 
     def pause(self) -> None:
         """Asks whether to go on."""
-        sys.stdout.write(MORE)
-        sys.stdout.flush()
-        self.waiting.is_at_prompt = True
         try:
+            # Who sees the question may press Ctrl-C at once.
+            self.waiting.is_at_prompt = True
+            sys.stdout.write(MORE)
+            sys.stdout.flush()
             answer = sys.stdin.readline()
         except KeyboardInterrupt:
             answer = ""
