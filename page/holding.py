@@ -51,7 +51,7 @@ class Held:
 
     def __init__(self, launch: Launch, source: bytes, file: str, named: Sequence[str],
                  texts: Sequence[str] | None = None,
-                 most: int = MOST_MOVES):
+                 most: int = MOST_MOVES, folders: Sequence[str] = ()):
         self.launch, self.source, self.file, self.most = launch, source, file, most
         # What stands for the program on a command line of ./qrev, and what comes last there.
         self.named, self.texts = list(named), [] if texts is None else ["--", *texts]
@@ -72,7 +72,7 @@ class Held:
             return
         self.program: Program = self.session.program
         self.table = Table(self.program)
-        self.origins = Origins(file)
+        self.origins = Origins(file, folders)
         self.lowering = Lowering(self.program, source, launch, lowered_of(file))
         self.gathering: Gathering
         self.total = length_of(launch, most)

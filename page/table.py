@@ -6,7 +6,7 @@ page/static/run.js computes the same from the same numbers, so only the values a
 """
 from __future__ import annotations
 
-from typing import TYPE_CHECKING, Any, Callable, Iterable
+from typing import TYPE_CHECKING, Any, Callable, Iterable, Sequence
 
 from terminal.sourcemap import ESCAPE, SourceMap, unescaped
 from terminal.text import BUILT_IN, STACK, STACK_BYTES, Block, Function, Instruction, Program
@@ -27,8 +27,8 @@ MOST_SOURCES, MOST_SOURCE = 32, 1 << 21
 class Origins:
     """Where the lines of a lowered text come from, by the map beside it: the compiler's own text, and its source."""
 
-    def __init__(self, file: str):
-        self.map = SourceMap.beside(file)
+    def __init__(self, file: str, folders: Sequence[str] = ()):
+        self.map = SourceMap.beside(file, folders)
         self.lines = [self.read(line) for line in self.map.lines]
 
     def read(self, line: str) -> list[list[Any]]:

@@ -17,7 +17,7 @@ INSTEAD = {
     "jump j": "`goto N` goes to a position; for the other way of a jump, `set` the temporary that it looks at",
     "kill": "`start` goes to the start, `quit` leaves",
     "starti": "`start` goes to the first instruction",
-    "show": "`info session` tells of the session",
+    "show": "`info session` tells of the session, `info source` of sources and where they are looked for",
     "record target": "nothing has to be recorded: `back` and `reverse` go back over any run",
     "undo": "`back` takes the last move back",
     "dprintf": "`commands N` has lines typed each time that stop N stops",

@@ -432,7 +432,7 @@ TOPICS = {
             "checkpoint restart",
     "move by lines of a source": "step-line next-line reverse-step-line reverse-next-line",
     "look": "print x display undisplay bt up down frame temps list search reverse-search disas mem find whatis out "
-            "info",
+            "info directory",
     "stop": "break tbreak watch ignore condition commands disable enable stops delete",
     "ask": "suspects made why path calls readers writers when counts compare blame",
     "change": "set poke",

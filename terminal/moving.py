@@ -8,7 +8,7 @@ from .expressions import Wrong
 from .output import Standard, is_plain
 from .runs import Outcome
 from .scratch import Refused
-from .shell import Leave, Shell, command
+from .shell import COMMANDS, Leave, Shell, command
 from .timeline import Timeline
 from .values import BITS, FLOATS, bits_of
 
@@ -258,7 +258,18 @@ def is_on(text: str) -> bool:
     return text != "off"
 
 
-OPTIONS = {"listsize": set_list_size, "height": set_height, "pagination": set_pagination, "style": set_style}
+def set_directories(shell: Shell, text: str) -> None:
+    """Sources have a command of their own; in gdb this is another way to write it."""
+    COMMANDS["directory"].call(shell, text)
+
+
+def set_substitute_path(_shell: Shell, _text: str) -> None:
+    raise Refused("set substitute-path: no such option; `directory DIR` finds a source in DIR by as much of the end of "
+                  "its path as is there")
+
+
+OPTIONS = {"listsize": set_list_size, "height": set_height, "pagination": set_pagination, "style": set_style,
+           "directories": set_directories, "substitute-path": set_substitute_path}
 
 
 @command("poke", "poke WIDTH ADDRESS EXPRESSION", "expression", is_repeated=False)

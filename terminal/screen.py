@@ -189,7 +189,7 @@ class Screen:
         instruction = self.session.program.functions[place.function].at(place.label, place.index)
         is_read = is_here and not is_elsewhere
         beside = self.beside(place, instruction) if is_read else []
-        source = self.map.place(instruction.line)
-        lines = [f"  source: {source}"] if source else []
+        source, written = self.map.place(instruction.line), self.map.text_of(instruction.line)
+        lines = [self.cut(f"  source: {source}" + (f"  {readable(written)}" if written else ""))] if source else []
         return lines + list(self.text_lines(instruction.line - AROUND, instruction.line + AROUND, instruction.line,
                                             beside))

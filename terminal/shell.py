@@ -131,6 +131,8 @@ class Shell:
         # The first and the last line that `list` showed, of the text and of a source.
         self.lines_shown: tuple[int, int] | None = None
         self.line_listed: tuple[str, int, int] | None = None
+        # The sources of which it was told that they aren't found.
+        self.told_absent: set[str] = set()
         # What was searched for in the text, and the line that was found last.
         self.sought, self.line_found = "", 0
         self.examined, self.unit, self.format = 0, "w", "x"

@@ -5,8 +5,9 @@ from __future__ import annotations
 import os
 import pathlib
 import re
-from dataclasses import dataclass
-from typing import NamedTuple
+from dataclasses import dataclass, field
+from functools import cached_property
+from typing import Iterator, NamedTuple, Sequence
 
 ESCAPE = re.compile(r"\\([\\tn])")
 
@@ -27,13 +28,22 @@ class SourceMap:
     """The map of a text: the n-th line is about the text's n-th."""
     file: pathlib.Path
     lines: list[str]
+    # Where sources are looked for first, and the lines of those that were read.
+    folders: list[pathlib.Path] = field(default_factory=list)
+    kept: dict[str, list[str]] = field(default_factory=dict)
 
     @classmethod
-    def beside(cls, file: str) -> SourceMap:
+    def beside(cls, file: str, folders: Sequence[str] = ()) -> SourceMap:
+        named = [pathlib.Path(folder) for folder in folders]
         try:
-            return cls(pathlib.Path(file), pathlib.Path(file + ".map").read_text(errors="replace").split("\n"))
+            return cls(pathlib.Path(file), pathlib.Path(file + ".map").read_text(errors="replace").split("\n"), named)
         except OSError:
-            return cls(pathlib.Path(file), [])
+            return cls(pathlib.Path(file), [], named)
+
+    def look_in(self, folders: Sequence[pathlib.Path]) -> None:
+        """Sources are looked for in these folders first from now on, also those that were read already."""
+        self.folders = list(folders)
+        self.kept.clear()
 
     def fields(self, line: int) -> list[str]:
         return self.lines[line - 1].split("\t") if 1 <= line <= len(self.lines) else []
@@ -79,11 +89,25 @@ class SourceMap:
         first = min(whole, key=lambda origin: origin.number, default=None)
         return (first, found[first]) if first else None
 
+    @cached_property
+    def beside_texts(self) -> list[pathlib.Path]:
+        """The folders of the texts that were lowered."""
+        texts = (ESCAPE.sub(unescaped, line.split("\t")[0]) for line in self.lines if "\t" in line)
+        return list(dict.fromkeys(pathlib.Path(text).parent for text in dict.fromkeys(texts)))
+
+    def tried(self, file: str) -> Iterator[pathlib.Path]:
+        """Where a source may be, the likeliest first: in the folders that were named, under as much of its path as is
+        there; where its path leads; and beside the text that was lowered."""
+        parts = [part for part in pathlib.PurePath(os.path.normpath(file)).parts if part not in ("/", "..")]
+        for folder in self.folders:
+            yield from (folder.joinpath(*parts[begin:]) for begin in range(len(parts)))
+        yield pathlib.Path(file)
+        for folder in self.beside_texts:
+            yield from (folder / name for name in dict.fromkeys((file, os.path.basename(file))))
+
     def path_of(self, file: str) -> pathlib.Path | None:
-        """Where a source is: where its path leads, or beside the text that was lowered."""
-        texts = {pathlib.Path(ESCAPE.sub(unescaped, line.split("\t")[0])).parent for line in self.lines if "\t" in line}
-        for path in [pathlib.Path(file),
-                     *(folder / name for folder in texts for name in (file, os.path.basename(file)))]:
+        """Where a source is, or None where it isn't found."""
+        for path in self.tried(file):
             try:
                 if path.is_file():
                     return path
@@ -92,8 +116,13 @@ class SourceMap:
         return None
 
     def read(self, file: str) -> list[str]:
-        """The lines of a source; none where it isn't found. Only newlines part them, as a compiler counts: a form feed
-        is a part of its line."""
+        """The lines of a source, as they were when it was first read; none where it isn't found."""
+        if file not in self.kept:
+            self.kept[file] = self.read_anew(file)
+        return self.kept[file]
+
+    def read_anew(self, file: str) -> list[str]:
+        """Only newlines part the lines of a source, as a compiler counts: a form feed is a part of its line."""
         path = self.path_of(file)
         try:
             text = path.read_bytes().decode(errors="replace") if path else ""
@@ -101,3 +130,9 @@ class SourceMap:
             return []
         lines = text.replace("\r\n", "\n").split("\n")
         return lines if lines[-1] else lines[:-1]
+
+    def text_of(self, line: int) -> str:
+        """What the source has for a line of the text, without the blanks around it."""
+        source = self.source(line)
+        lines = self.read(source.file) if source else []
+        return lines[source.number - 1].strip() if source and 1 <= source.number <= len(lines) else ""

@@ -1,7 +1,10 @@
 """Lines of a source: breakpoints at them, what is around them, and moves from one to the next."""
 from __future__ import annotations
 
+import os
+import pathlib
 import re
+import shlex
 from dataclasses import replace
 from typing import Callable
 
@@ -105,18 +108,68 @@ def list_source(shell: Shell, rest: str) -> bool:
     first, last = lines_listed(rest, int, LISTED, shown, here.number if here else 1)
     lines = source_lines(shell, file, first, last, marked)
     if not lines and typed:
-        raise Refused(f"{file}: the source isn't found, or has no such line")
+        raise Refused(absent_told(shell, file))
+    if not lines and file not in shell.told_absent and not shell.screen.map.read(file):
+        shell.told_absent.add(file)
+        shell.say(f"{absent_told(shell, file)}; this is the text")
     if lines:
         shell.say(file, *lines)
         shell.line_listed = (file, first, last)
     return bool(lines)
 
 
+def absent_told(shell: Shell, file: str) -> str:
+    """Why lines of a source can't be shown."""
+    count = len(shell.screen.map.read(file))
+    return f"{file}: the source has {count} lines" if count else \
+        f"{file}: the source isn't found, or is empty; `directory DIR` says where sources are"
+
+
 def source_told(shell: Shell, _rest: str) -> list[str]:
-    here, files = source_selected(shell), shell.screen.map.files()
+    sources, here = shell.screen.map, source_selected(shell)
     told = [f"here: {here.file}:{here.number}" if here else "here: no line of a source"]
-    found = {file: "" if shell.screen.map.read(file) else ", which isn't found" for file in files}
-    return told + [f"{file}: {count} lines in the text{found[file]}" for file, count in files.items()]
+    for file, count in sources.files().items():
+        path = sources.path_of(file)
+        where = "" if path == pathlib.Path(file) else f", found at {path}"
+        told.append(f"{file}: {count} lines in the text" + (where if path else ", which isn't found"))
+        if not path:
+            told += [f"  looked for at {each}" for each in dict.fromkeys(sources.tried(file))]
+            told.append("  `directory DIR` says where sources are")
+    return told + [f"looked in first: {folder}" for folder in sources.folders]
+
+
+@command("directory dir", "directory [DIR ..]", "file", is_repeated=False)
+def directory(shell: Shell, rest: str) -> None:
+    """Looks for sources in a folder first, by as much of their paths as is there: the end of a path, or the name alone,
+    is enough. The folder that is named last goes before those named earlier. Without a folder, all are forgotten."""
+    try:
+        words = [part for word in shlex.split(rest) for part in word.split(os.pathsep) if part]
+    except ValueError as error:
+        raise Wrong(f"directory: {error}") from None
+    named = [pathlib.Path(word).expanduser().absolute() for word in words]
+    absent = [str(folder) for folder in named if not folder.is_dir()]
+    if absent:
+        raise Refused(f"{absent[0]}: no such folder")
+    # Both runs of a comparison come of the same sources.
+    for each in filter(None, (shell, shell.other)):
+        each.screen.map.look_in(list(dict.fromkeys([*named, *each.screen.map.folders])) if named else [])
+        each.told_absent.clear()
+        each.list_anew()
+    shell.say(*directory_told(shell))
+
+
+def directory_told(shell: Shell) -> list[str]:
+    """Where sources are looked for, and which aren't found there."""
+    sources = shell.screen.map
+    files = list(sources.files())
+    if not files:
+        return ["the text has no map with debug lines, so it has no sources"]
+    absent = [file for file in files if not sources.path_of(file)]
+    where = ", ".join(map(str, sources.folders)) + ", then at their paths" if sources.folders else "at their paths"
+    found = f"{len(files) - len(absent)} of {len(files)} {'is' if len(files) == 1 else 'are'} found"
+    return [f"sources are looked for in {where} and beside the text; {found}" if sources.folders else
+            f"sources are looked for {where} and beside the text; {found}",
+            *(f"  {file} isn't found" for file in absent)]
 
 
 # Moves by lines of the source.

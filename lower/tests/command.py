@@ -1,7 +1,10 @@
 """The wrapper's --lower, which lowers and runs in one go, and the time that a large text takes."""
+import base64
+import gzip
 import json
 import os
 import pathlib
+import re
 import shutil
 import signal
 import subprocess
@@ -193,6 +196,32 @@ def piped_faults(wrapper: Wrapper) -> Results:
     yield "command/what is kept of pipes", differ("files", [], sorted(os.listdir(wrapper.top / "tmp")))
 
 
+# A text whose source the compiler had in a folder that isn't here, and that source.
+GONE = PLAIN.replace("export", 'dbgfile "/gone/from/here/x.c"\nexport').replace("\t%x", "\tdbgloc 2\n\t%x", 1)
+GONE_SOURCE = "int main(void) {\n    return seven;\n}\n"
+
+
+def directory_faults(wrapper: Wrapper) -> Results:
+    """The page and the prompt find sources in a folder that is named before the program, and nothing is begun where
+    there is no such folder."""
+    (wrapper.top / "gone.ssa").write_text(GONE)
+    (wrapper.top / "moved").mkdir()
+    (wrapper.top / "moved" / "x.c").write_text(GONE_SOURCE)
+    for words in (["-d", "moved"], ["--directory", "moved"], ["--directory=moved"]):
+        run = wrapper.run(*words, "--prompt", "--lower", "gone.ssa", script="list\n")
+        yield f"command/{words}", differ("list", True, "> 2      return seven;\n" in run.stdout)
+    for folder in ("moved", "."):
+        wrapper.run("--page", "-d", folder, "--export", "gone.html", "gone.ssa")
+        # What a page is told of the program is the first of what is packed in it.
+        packed = re.search(r"H4sI[\w+/=]+", (wrapper.top / "gone.html").read_text())
+        told = json.loads(gzip.decompress(base64.b64decode(packed[0]))) if packed else {}
+        lines = GONE_SOURCE.split("\n") if folder == "moved" else None
+        yield f"command/a page after -d {folder}", differ("source", lines, told["sources"].get("/gone/from/here/x.c"))
+    for words in (["-d", "none", "gone.ssa"], ["--directory=none", "gone.ssa"], ["-d"]):
+        run = wrapper.run(*words)
+        yield f"command/{words}", differ("run", (64, "", True), (run.returncode, run.stdout, "a folder" in run.stderr))
+
+
 def wrapper_faults(running: Running) -> Results:
     with tempfile.TemporaryDirectory(prefix="lower-") as place:
         wrapper = Wrapper(place, running)
@@ -236,6 +265,7 @@ def wrapper_faults(running: Running) -> Results:
             yield f"command/{words}", differ("run", (64, "", told), (run.returncode, run.stdout, run.stderr))
         yield from unasked_faults(wrapper)
         yield from piped_faults(wrapper)
+        yield from directory_faults(wrapper)
         (wrapper.top / "read.ssa").write_text(READ)
         (wrapper.top / "given").write_bytes(b"Q\xff")
         for words in (["--input", "given", "read.ssa"], ["read.ssa", "--input=given", "--report"]):

@@ -652,7 +652,7 @@ def mapped(program: str) -> str | None:
         written(folder, "squares.my", "".join(f"my {number}\n" for number in range(1, 41)))
         session = Held(program, "a.ssa", folder=folder)
         try:
-            fault = missing(session.do("goto 44"), "  source: my\tsquares.ssa:9: squares.my:4:7\n")
+            fault = missing(session.do("goto 44"), "  source: my\tsquares.ssa:9: squares.my:4:7  my 4\n")
             fault = fault or missing(session.do("bt"), "(my\tsquares.ssa:13: squares.my:30)\n")
             fault = fault or missing(session.do("s"), "  source: my\tsquares.ssa:9\n")
             session.do("back")

@@ -8,7 +8,7 @@ import subprocess
 import sys
 import tempfile
 from functools import partial
-from typing import Callable
+from typing import Callable, Mapping
 
 from terminal.lowered import lowered_of
 from terminal.renaming import Renaming
@@ -392,27 +392,60 @@ PLACES_LINES: Lines = [
     ("list -ssa", ["%t =w copy 3"]), ("list p.c:2", ["  1  int twice(int x) {^L\n", "> 6"]),
     ("list 1,3", ["p.c\n", "  3      return y;\n"]), ("list p.c:8,", [" 8      a = b + 1;\n", "10  }\n"]),
     ("list 9", ["  9      return a;"]), ("list $twice", ["function w $twice(w %x) {"]),
-    ("list other.c:1", ["isn't found"]), ("b p.c:7", ["break 1: $main @start 2"]),
+    ("list other.c:1", ["isn't found"]), ("list p.c:20", ["p.c: the source has 10 lines"]),
+    ("b p.c:7", ["break 1: $main @start 2"]),
     ("tbreak a.ssa:9", ["break 2: $twice @start 2"]), ("b none.c:1", ["the sources are: p.c"]),
-    ("c", ["stop: break 2", "#4 $twice @start 2", "a.ssa:9: p.c:3\n"]),
-    ("up", ["frame 1 $main @start 2\n  source: a.ssa:15: p.c:6\n", "> 10 "]), ("down", ["frame 0 $twice @start 2\n"]),
+    ("c", ["stop: break 2", "#4 $twice @start 2", "a.ssa:9: p.c:3  return y;\n"]),
+    ("up", ["frame 1 $main @start 2\n  source: a.ssa:15: p.c:6  int a = twice(3);\n", "> 10 "]),
+    ("down", ["frame 0 $twice @start 2\n"]),
     ("c", ["stop: break 1", "#5 $main @start 2"]),
-    ("d", []), ("next-line", ["#13 $main @start 4", "p.c:8\n"]), ("nl", ["#15 $main @start 6", "p.c:9\n"]),
-    ("reverse-next-line", ["#13 $main @start 4"]), ("rnl", ["#5 $main @start 2", "p.c:7:5\n"]),
-    ("rnl", ["#0 $main @start 0"]), ("step-line", ["#2 $twice @start 0", "p.c:2\n"]), ("sl", ["#4 $twice @start 2"]),
-    ("sl", ["#5 $main @start 2"]), ("nl", ["#13 $main"]), ("reverse-step-line", ["#8 $twice @start 2", "p.c:3\n"]),
+    ("d", []), ("next-line", ["#13 $main @start 4", "p.c:8  a = b + 1;\n"]),
+    ("nl", ["#15 $main @start 6", "p.c:9  return a;\n"]),
+    ("reverse-next-line", ["#13 $main @start 4"]), ("rnl", ["#5 $main @start 2", "p.c:7:5  int b = abs(twice(a));\n"]),
+    ("rnl", ["#0 $main @start 0"]), ("step-line", ["#2 $twice @start 0", "p.c:2  int y = x * 2;\n"]),
+    ("sl", ["#4 $twice @start 2"]),
+    ("sl", ["#5 $main @start 2"]), ("nl", ["#13 $main"]),
+    ("reverse-step-line", ["#8 $twice @start 2", "p.c:3  return y;\n"]),
     ("rsl", ["#6 $twice @start 0"]), ("rsl", ["#5 $main @start 2"]), ("rsl", ["#4 $twice @start 2"]),
     ("nl 9", ["done 13"]), ("rnl", ["#15 $main @start 6"]),
     ("goto 12", ["$abs @"]), ("rnl", ["#5 $main @start 2"]), ("nl 2", ["#15"]), ("reverse-n", ["#14 $main @start 5"]),
 ]
 
 
-def session_fault(program: str, text: str, lines: Lines) -> str | None:
+# The compiler had the source in a folder that is not here, where two folders have one of its name.
+ELSEWHERE = PLACES.replace('"p.c"', '"/build/proj/lib/p.c"')
+ELSEWHERE_FILES = {"src/lib/p.c": SOURCE, "src/p.c": "int another;\n", "old/p.c": "int old;\n" * 9, "empty": ""}
+ELSEWHERE_LINES: Lines = [
+    ("list", ["/build/proj/lib/p.c: the source isn't found, or is empty; `directory DIR` says where sources are; ",
+              "this is the text\n", "%t =w copy 3"]),
+    ("l p.c:6", ["/build/proj/lib/p.c: the source isn't found"]),
+    ("info source", ["/build/proj/lib/p.c: 6 lines in the text, which isn't found\n",
+                     "  looked for at /build/proj/lib/p.c\n", "`directory DIR` says where sources are"]),
+    ("set substitute-path /build /tmp", ["no such option; `directory DIR`"]),
+    ("directory nowhere", ["/nowhere: no such folder"]), ("directory empty", ["/empty: no such folder"]),
+    ("directory src", ["/src, then at their paths", "1 of 1 is found\n"]),
+    ("list", ["/build/proj/lib/p.c\n", ">  6      int a = twice(3);\n"]),
+    ("info source", [", found at ", "/src/lib/p.c\n", "looked in first: "]),
+    ("nl", ["/build/proj/lib/p.c:7:5  int b = abs(twice(a));\n"]), ("sl", ["p.c:2  int y = x * 2;\n"]),
+    ("rnl", ["p.c:7:5  int b = abs(twice(a));\n"]),
+    ("rnl", ["p.c:6  int a = twice(3);\n"]), ("set directories old", ["/old, ", "1 of 1 is found"]),
+    ("list 6,6", ["> 6  int old;\n"]),
+    ("info source", ["/old/p.c\n"]),
+    ("directory", ["looked for at their paths and beside the text; 0 of 1 is found\n",
+                   "  /build/proj/lib/p.c isn't found"]),
+    ("list", ["this is the text"]), ("dir old:src/lib", ["/old, ", "/src/lib, then", "1 of 1"]),
+    ("dir src/lib", ["/src/lib, ", "/old, then"]), ("list 8,8", ["8      a = b + 1;"]), ("d", []),
+]
+
+
+def session_fault(program: str, text: str, lines: Lines, files: Mapping[str, str]) -> str | None:
     """What a session over a text shows wrong, or where its saved script leads wrong."""
     with tempfile.TemporaryDirectory(prefix="lowered-") as folder:
         file = pathlib.Path(folder) / "a.ssa"
         file.write_text(text)
-        (pathlib.Path(folder) / "p.c").write_text(SOURCE)
+        for name, content in files.items():
+            (pathlib.Path(folder) / name).parent.mkdir(parents=True, exist_ok=True)
+            (pathlib.Path(folder) / name).write_text(content)
         subprocess.run([sys.executable, str(LOWER), "--link", "--output", "out.ssa", "a.ssa"], cwd=folder, timeout=600,
                        stderr=subprocess.DEVNULL)
         # An entry that takes a number is given 1.
@@ -484,9 +517,12 @@ SESSIONS = {"constants": (CONSTANTS, CONSTANTS_LINES), "output": (OUTPUT, OUTPUT
             "signal": (SIGNAL, SIGNAL_LINES),
             "floats": (FLOATS, FLOATS_LINES), "singles": (SINGLES, SINGLES_LINES), "called": (CALLED, CALLED_LINES),
             "chain of floats": (chain(OPERATIONS), CHAIN_LINES), "short names": (large(), LARGE_LINES),
-            "places": (PLACES, PLACES_LINES)}
+            "places": (PLACES, PLACES_LINES), "elsewhere": (ELSEWHERE, ELSEWHERE_LINES)}
+
+# The files beside the text, where they aren't its source alone.
+FILES = {"elsewhere": ELSEWHERE_FILES}
 
 
 def cases(program: str) -> list[tuple[str, Callable[[], str | None]]]:
-    return [(f"lowered {name}", partial(session_fault, program, text, lines))
+    return [(f"lowered {name}", partial(session_fault, program, text, lines, FILES.get(name, {"p.c": SOURCE})))
             for name, (text, lines) in SESSIONS.items()]
