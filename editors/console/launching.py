@@ -98,6 +98,7 @@ class Launcher:
     def begin(self, message: dict[str, Any], given: dict[str, Any], raw: bytes) -> None:
         """Sends what a launch or a restart asks of the adapter, and waits until it is answered."""
         is_restart = message.get("command") == "restart"
+        message, given, raw = with_entry_named(message, given, raw)
         launch = self.again(given) if is_restart else given
         plain = Beginning(message.get("seq", 0), launch, launch)
         if self.is_open != is_restart:
@@ -341,6 +342,20 @@ class Launcher:
             message = led_back(message, self.tried, self.first_line)
         number = message.pop("seq")
         return written({**message, "seq": number})
+
+
+def with_entry_named(message: dict[str, Any], given: dict[str, Any], raw: bytes) \
+        -> tuple[dict[str, Any], dict[str, Any], bytes]:
+    """A launch or a restart, and its arguments, with the entry without its sigil: the adapter takes the bare name."""
+    is_restart = message.get("command") == "restart"
+    launch = given.get("arguments") if is_restart else given
+    entry = launch.get("entry") if isinstance(launch, dict) else None
+    if not isinstance(launch, dict) or not isinstance(entry, str) or not re.match(r"\$.", entry):
+        return message, given, raw
+    launch = {**launch, "entry": entry[1:]}
+    given = {**given, "arguments": launch} if is_restart else launch
+    message = {**message, "arguments": given}
+    return message, given, framed(written(message))
 
 
 def signature_of(path: str) -> Signature | None:

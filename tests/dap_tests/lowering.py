@@ -328,6 +328,24 @@ def words(at: Lowering) -> None:
     expect(told.endswith(" done 1\n"), f"the prompt tells {told}")
 
 
+def with_sigil(at: Lowering) -> None:
+    """The entry may have its sigil, as the text writes it: of a lowered text and of one that is run as it is, and in a
+    restart; one that names no program has that of the launch."""
+    at.begin("floats.ssa", entry="$main")
+    at.goes("continue", "done 7")
+    for launch, end in (({"program": "squares.ssa", "entry": "$fill"}, "done"),
+                        ({"program": "squares.ssa", "entry": "main"}, "done 30"),
+                        ({"program": "length.ssa", "entry": "$main"}, "done 4")):
+        given = {**launch, "program": str(at.folder / launch["program"])}
+        again = at.console.answer("restart", {"arguments": given})
+        expect(again["success"], f"{again}")
+        at.configure()
+        at.goes("continue", end)
+    at.console.answer("restart")
+    at.configure()
+    at.goes("continue", "done 7")
+
+
 def own_name(at: Lowering) -> None:
     """Without words a main of argc and argv has the name of the program, as native code has it."""
     at.begin("echoes.ssa")
@@ -703,7 +721,7 @@ def by_the_definitions(at: Lowering) -> Fault:
 CASES: dict[str, Callable[[Lowering], Fault]] = {
     "floats": floats, "steps": steps, "relative paths": relative, "the C library": library,
     "as at the prompt": as_at_the_prompt, "linked files": linked, "input": reads, "files": finds, "words": words,
-    "a name of its own": own_name, "plain texts": plain, "restarted": restarted, "refused": refused,
+    "a name of its own": own_name, "an entry with its sigil": with_sigil, "plain texts": plain, "restarted": restarted, "refused": refused,
     "wrong members": wrong_members, "looked at": looked_at, "functions from outside": outside,
     "sources": sources, "recorded": recorded, "checked": checked, "checked, with links": check_links,
     "checked beside": beside, "at once": at_once, "closed input": closed_input,
