@@ -16,6 +16,7 @@ from .renaming import Renaming
 from .scratch import SLICE, Launch, Refused
 from .shell import Shell, Switched, command
 from .timeline import Timeline
+from .typed import as_typed
 from .waiting import Waiting
 
 
@@ -40,7 +41,7 @@ def shell_of(debugger: str, file: str, words: list[str], bounds: dict[str, int],
                     else None)
     shell = Shell(launch, file, source, waiting, None, lowered=lowered)
     if shell.session.pipe.refused:
-        print("\n".join(refusal(line, file, source) for line in shell.session.pipe.loaded))
+        print("\n".join(as_typed(refusal(line, file, source)) for line in shell.session.pipe.loaded))
     return shell
 
 
@@ -91,7 +92,7 @@ def held(debugger: str, program: str, given: Sequence[str], named: Sequence[str]
         pathlib.Path(file).open("rb").close()
     pair = compared(program, given)
     if not pair.is_told or set(pair.positions) != set(SIDES) or pair.head.startswith("same"):
-        sys.stdout.write(pair.text)
+        sys.stdout.write(as_typed(pair.text))
         return pair.status
     bounds = split_words([*files, *given])[2]
     waiting, sides = Waiting(), {}

@@ -4,8 +4,10 @@ Each gives what is wrong, or None.
 """
 from __future__ import annotations
 
+import os
 import pathlib
 import re
+import signal
 import subprocess
 import sys
 import tempfile
@@ -177,6 +179,55 @@ def told_blame(program: str) -> str | None:
         return fault
 
 
+# Two texts by pipes, as a shell writes them, and a word before them.
+PIPED = './qrev-compare {} <(cat -- "$0") <(cat -- "$1") </dev/null'
+# Both read the same, so a pipe that was read before would part them.
+SAME_PIPED = 'cat -- "$0" | ./qrev-compare --blame /dev/stdin /dev/stdin'
+
+
+def piped(program: str) -> str | None:
+    """Texts that can be read only once are compared as files are, and called by the names that were typed."""
+    with tempfile.TemporaryDirectory(prefix="compared-") as folder:
+        good, bad, kept = pathlib.Path(folder) / "good.ssa", pathlib.Path(folder) / "bad.ssa", f"{folder}/kept"
+        bad.write_text(SUM.read_text().replace("storew 4, %item.8", "storew 5, %item.8"))
+        good.write_text(SUM.read_text())
+        pathlib.Path(kept).mkdir()
+
+        def asked(script: str, *texts: object) -> subprocess.CompletedProcess[str]:
+            return subprocess.run(["bash", "-c", script, *map(str, texts)], cwd=TOP, capture_output=True, text=True,
+                                  stdin=subprocess.DEVNULL, env={**os.environ, "TMPDIR": kept})
+        for words in ("--blame", "--blame --lower"):
+            run = asked(PIPED.format(words), good, bad)
+            last = re.findall(r"^  (good|bad): #\d+ \$main .*: storew (\d), %item.8  \(/dev/fd/\d+:39: ", run.stdout,
+                              re.MULTILINE)
+            if last != [("good", "4"), ("bad", "5")] or run.returncode != PART or folder in run.stdout:
+                return f"{words}: {run.stdout!r} {run.stderr!r} {run.returncode}"
+        run = asked(SAME_PIPED, good)
+        if run.returncode != SAME or not run.stdout.startswith("same "):
+            return f"the same pipe: {run.stdout!r} {run.stderr!r} {run.returncode}"
+        bad.write_text(SUM.read_text().replace("storew 4, %item.8", "storeq 4, %item.8"))
+        run = asked(PIPED.format("--blame"), good, bad)
+        fault = None if re.match(r"/dev/fd/\d+:39: `storeq` ", run.stderr) else f"a refusal: {run.stderr!r}"
+        return fault or (f"{os.listdir(kept)} is left" if os.listdir(kept) else piped_page(good, kept))
+
+
+def piped_page(text: pathlib.Path, kept: str) -> str | None:
+    """A page of texts by pipes is served."""
+    shown = subprocess.Popen(["bash", "-c", PIPED.format("--page"), str(text), str(text)], cwd=TOP, text=True,
+                             stdout=subprocess.PIPE, stderr=subprocess.STDOUT, start_new_session=True,
+                             env={**os.environ, "TMPDIR": kept, "DISPLAY": "", "WAYLAND_DISPLAY": ""})
+    try:
+        told = ""
+        for line in shown.stdout or ():
+            told += line
+            if line.startswith("until "):
+                break
+        return lacking(told, "same ", " is shown at\n")
+    finally:
+        os.killpg(shown.pid, signal.SIGTERM)
+        shown.communicate()
+
+
 def not_parted(program: str) -> str | None:
     """Where nothing parts, or a text is refused or missing, all is as without a terminal, and there is no prompt."""
     with tempfile.TemporaryDirectory(prefix="compared-") as folder:
@@ -198,4 +249,4 @@ def not_parted(program: str) -> str | None:
 
 
 COMPARISONS = {"parted": parted, "end": parted_at_end, "lowered": parted_lowered, "same": not_parted,
-               "blame": told_blame}
+               "blame": told_blame, "pipes": piped}
