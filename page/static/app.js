@@ -14,7 +14,7 @@ import {Timeline} from "./timeline.js";
 import {Tree, Walk} from "./tree.js";
 import {Values} from "./values.js";
 import {WIDTHS, spaced} from "./program.js";
-import {byId} from "./element.js";
+import {byId, keepingFocus} from "./element.js";
 
 const MOST_PINS = 4, LEAST_WIDE = 12, SETTLE = 40, SAID = 3000, A_SIGN = 50, OVERVIEW = 120,
   TRACED = 1000;
@@ -450,6 +450,7 @@ class App {
     if (!next) return;
     this.walk.chosen = next;
     this.follow();
+    this.tree.takeFocus();
   }
 
   effect() {
@@ -552,13 +553,13 @@ class App {
     byId("position").value = spaced(this.cursor + this.run.base);
     this.timeline.draw();
     this.code.draw();
-    this.values.draw();
+    keepingFocus(() => this.values.draw());
     this.cells.draw();
     this.output.draw();
   }
 
   drawCauses() {
-    this.tree.draw();
+    keepingFocus(() => this.tree.draw());
     this.timeline.draw();
     this.code.badges();
     this.cells.draw();

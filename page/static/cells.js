@@ -99,7 +99,7 @@ export class Cells {
       const {instruction} = app.program.table[id];
       return element("span", {class: "key", title: instruction.text},
         element("i", {class: "swatch", css: {background: `var(--w${this.hueOf(id)})`}}),
-        `line ${instruction.line} `, element("code", {}, instruction.text));
+        element("span", {}, `line ${instruction.line} `), element("code", {}, instruction.text));
     });
     const none = app.run.base ? "nothing was written in this window before here" : "nothing was written yet";
     return element("div", {class: "legend"}, keys.length ? "last written by" : none, ...keys);

@@ -18,6 +18,13 @@ export function element(tag, properties = {}, ...children) {
 
 export const byId = id => document.getElementById(id);
 
+/** Makes elements anew; one that the keyboard had led to hands the focus to that with its `data-key`. */
+export function keepingFocus(draw) {
+  const key = document.querySelector("[data-key]:focus-visible")?.dataset.key;
+  draw();
+  if (key) [...document.querySelectorAll("[data-key]")].find(each => each.dataset.key === key)?.focus({preventScroll: true});
+}
+
 /** Words for a class, where a condition holds. */
 export const classes = (...words) => words.filter(Boolean).join(" ");
 

@@ -99,9 +99,14 @@ export class Tree {
     const depths = new Map();
     for (const node of this.nodes) depths.set(node, node.parent ? depths.get(node.parent) + 1 : 0);
     const rows = this.nodes.map((node, index) => this.row(node, index, depths.get(node)));
-    this.box.replaceChildren(element("div", {role: "tree", "aria-label": "causes", tabindex: "0",
+    this.box.replaceChildren(element("div", {role: "tree", "aria-label": "causes", tabindex: "0", data: {key: "causes"},
       "aria-activedescendant": `node-${this.nodes.indexOf(walk.chosen)}`}, ...rows));
     this.reveal(this.box.querySelector(".node.is-chosen"));
+  }
+
+  /** Has the focus in place of a value that was asked about, so that Enter opens a cause and doesn't ask again. */
+  takeFocus() {
+    if (document.querySelector("[data-key]:focus")) this.box.querySelector("[role=tree]").focus({preventScroll: true});
   }
 
   /** Scrolls the tree, and not the page, so that a row is in view. */
@@ -128,11 +133,11 @@ export class Tree {
   asked(question) {
     if (question.of === "there") return there(question);
     const isControl = question.of === "control" || question.of === "call";
+    const hasValue = question.shown !== undefined, label = `${question.isStale ? "now " : ""}${question.label}`;
     return element("span", {class: classes("ask", isControl && "is-control", question.isAside && "is-aside",
-      question.isStale && "is-changed")},
-      question.isStale ? "now " : "", question.label, question.shown === undefined ? null
-        : element("b", {}, ` ${question.shown}`),
-      question.note ? ` ${question.note}` : "");
+      question.isStale && "is-changed", hasValue && "has-value")},
+      hasValue ? element("span", {}, label) : label, hasValue && element("b", {}, ` ${question.shown}`),
+      question.note ? element("span", {}, ` ${question.note}`) : "");
   }
 
   by({cause, isSeen}) {

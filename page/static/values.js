@@ -47,7 +47,7 @@ export class Values {
     const tab = (frame, index) => {
       const isKnown = run.innermostState(frame, app.cursor) >= 0, called = run.frames.begin[frame] - 1;
       return element("button", {class: classes("frame", index === app.selected && "is-on", !run.isOwnFrame(frame) && "is-other"),
-        "aria-pressed": String(index === app.selected),
+        "aria-pressed": String(index === app.selected), data: {key: `frame ${frame}`},
         disabled: !isKnown, onclick: () => app.select(index),
         title: isKnown && called >= 0 ? `${run.funcOf(frame).name}, called at #${called + run.base}`
           : run.funcOf(frame).name},
@@ -74,14 +74,14 @@ export class Values {
     const row = element("div", {class: classes("temp", question.value === null && "is-unset", isRead && "is-read",
       isFresh && "is-fresh",
       app.pins.includes(id) && "is-pinned"), role: "listitem"},
-    element("button", {class: classes("ask-temp", was !== null && "has-was"),
+    element("button", {class: classes("ask-temp", was !== null && "has-was"), data: {key: `why ${name}`},
       "aria-label": `${name} ${question.shown}${was === null ? "" : `, ${was} in the run before`}: why`,
       onclick: () => app.ask(question)},
       element("span", {class: "name", title: `${name}, class ${width}`}, name),
       was === null ? null : element("s", {class: "was", title: `${was} in the run before`}, was),
       element("span", {class: "number", title: question.value === null ? "" : this.allOf(question.value, width)},
         question.shown)),
-    element("button", {class: "keep", "aria-label": `plot of ${name} in the timeline`,
+    element("button", {class: "keep", data: {key: `plot ${name}`}, "aria-label": `plot of ${name} in the timeline`,
       title: "keep this plot in the timeline",
       onclick: () => app.pin(id)}, chart));
     return {row, chart, id};

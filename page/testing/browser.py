@@ -22,7 +22,7 @@ SHIFT = 8
 # The codes of keys without a sign.
 CODES = {"Escape": 27, "Enter": 13, "Backspace": 8, "ArrowLeft": 37, "ArrowUp": 38, "ArrowRight": 39, "ArrowDown": 40,
          "End": 35,
-         "Home": 36}
+         "Home": 36, "Tab": 9}
 
 
 def found() -> str | None:

@@ -172,6 +172,47 @@ def readers(program: str) -> str | None:
         return None if tree == wanted else f"the tree is {json.dumps(tree)}"
 
 
+def focused(program: str) -> str | None:
+    """Who goes by Tab keeps the focus: on a value, through moves and questions, and then in the causes."""
+    focus = "document.activeElement.getAttribute('aria-label')"
+    with opened(program, str(EXAMPLES / "squares.ssa")) as browser:
+        for _ in range(40):
+            browser.key("Tab")
+            if str(browser.run(focus)).startswith("%sum "):
+                break
+        # The last five moves are behind the loop, and the eight before these add 9 to the squares of 0, 1 and 2.
+        for keys, wanted in ((("Enter",), "%sum 14: why"), (("ArrowLeft",) * 10, "%sum 5: why"),
+                             (("End",), "%sum 14: why"), (("ArrowDown",), "causes"), (("Enter",), "causes"),
+                             (("ArrowLeft",), "causes")):
+            browser.keys(*keys)
+            if browser.run(focus) != wanted or not browser.run("document.activeElement.matches(':focus-visible')"):
+                return f"behind {keys} the focus is on {browser.run(focus)}"
+    return None
+
+
+# Texts whose value, or whose own name, is cut off by the other.
+LOST = """[...document.querySelectorAll(".ask b, .ask-temp > .name, .key code")].filter(each => {
+  const own = each.getBoundingClientRect(), around = each.parentNode.getBoundingClientRect();
+  return own.width < 7 || own.left < around.left - 1 || own.right > around.right + 1;
+}).map(each => each.textContent)"""
+
+
+def long_names(program: str) -> str | None:
+    """A name of forty characters leaves room for its value, and a value that is an address for the name."""
+    name = "a_temporary_whose_name_has_forty_chars_x"
+    text = (f"export function w $main() {{\n@start\n\t%{name} =l alloc8 16\n\t%b{name} =w add 1, 2\n"
+            f"\tstorew %b{name}, %{name}\n\t%c{name} =w call $f(w %b{name})\n\tret %c{name}\n}}\n"
+            f"function w $f(w %{name}) {{\n@start\n\t%d{name} =w mul %{name}, 3\n\tret %d{name}\n}}\n")
+    with tempfile.TemporaryDirectory(prefix="page-") as folder:
+        file = pathlib.Path(folder) / "names.ssa"
+        file.write_text(text)
+        with opened(program, str(file), width=1280, height=800) as browser:
+            browser.settle(.2)
+            shown = browser.run("document.querySelectorAll('.ask b, .ask-temp > .name, .key code').length")
+            lost = browser.run(LOST)
+            return f"{lost} of {shown} are cut off" if lost or shown < 5 else None
+
+
 def windows(program: str) -> str | None:
     """A run that is shown by windows: the overview's length and stacks, and each view at states of four windows."""
     file, found = str(EXAMPLES / "queens.ssa"), []
@@ -449,5 +490,6 @@ def enemies(program: str) -> str | None:
 
 
 CASES = {"enemy texts": enemies, "boxes": boxes, "contrast": contrast, "screen readers": readers,
+         "focus": focused, "long names": long_names,
          "windows of a long run": windows, "a million moves": times,
          "a run without an end": endless}
