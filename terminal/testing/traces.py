@@ -302,8 +302,8 @@ def way_faults(debugger: str, file: str, seed: int, questions: int) -> list[str]
             function = shell.session.program.functions[trace.states[position].frames[0].function]
             wanted = way_of(trace, position)
             # Forward from the beginning of the call, and back from its state; all blocks, and the last two.
-            for forward, most in ((MOST_FORWARD, MOST_BLOCKS), (MOST_FORWARD, 2), (0, MOST_BLOCKS)):
-                told = blocks_of(shell, function, Timeline(position), most, forward)
+            for reach, most in ((MOST_FORWARD, MOST_BLOCKS), (MOST_FORWARD, 2), (0, MOST_BLOCKS)):
+                told = blocks_of(shell, function, Timeline(position), most, reach)
                 found.append(None if told == wanted[-most:] else f"the way to #{position} is {told}, not {wanted}")
             places = [(block.label, index) for block in function.blocks.values() for index in (0, len(block.body) - 1)]
             far = chosen.choice((10, FAR))
