@@ -721,7 +721,8 @@ def by_the_definitions(at: Lowering) -> Fault:
 CASES: dict[str, Callable[[Lowering], Fault]] = {
     "floats": floats, "steps": steps, "relative paths": relative, "the C library": library,
     "as at the prompt": as_at_the_prompt, "linked files": linked, "input": reads, "files": finds, "words": words,
-    "a name of its own": own_name, "an entry with its sigil": with_sigil, "plain texts": plain, "restarted": restarted, "refused": refused,
+    "a name of its own": own_name, "an entry with its sigil": with_sigil, "plain texts": plain,
+    "restarted": restarted, "refused": refused,
     "wrong members": wrong_members, "looked at": looked_at, "functions from outside": outside,
     "sources": sources, "recorded": recorded, "checked": checked, "checked, with links": check_links,
     "checked beside": beside, "at once": at_once, "closed input": closed_input,
