@@ -1,7 +1,6 @@
 """The way that control took through a call, and why it didn't reach a block."""
 from __future__ import annotations
 
-from collections import deque
 from dataclasses import replace
 from itertools import islice
 from typing import Sequence
@@ -21,8 +20,6 @@ MOST_BLOCKS_IN_ROUND = 32
 MOST_TOLD = 200
 # How many blocks of a call are looked for at most, from the last one back.
 MOST_BLOCKS = 4_000
-# Of a call that lasts longer than so many moves, the way is looked for from its end.
-MOST_FORWARD = 10_000_000
 
 
 @command("path", "path [$f]", "place", is_repeated=False)
@@ -71,14 +68,9 @@ def last_call(shell: Shell, name: str, at: Timeline) -> Timeline:
     return at.at(hit.position)
 
 
-def blocks_of(shell: Shell, function: Function, at: Timeline, most: int = MOST_BLOCKS,
-              forward: int = MOST_FORWARD) -> list[tuple[int, str]]:
+def blocks_of(shell: Shell, function: Function, at: Timeline, most: int = MOST_BLOCKS) -> list[tuple[int, str]]:
     """The blocks through which a call went, each with the position at which it was entered, the first one first; of a
     long way the last ones."""
-    begun = shell.frames.entry(at)
-    is_once = function.name not in shell.session.program.again and not at.pokes
-    if is_once and at.position - begun.position <= forward:
-        return blocks_forward(shell, function, begun, at, most)
     labels = list(function.blocks)
     found: set[tuple[int, str]] = set()
     here = shell.frames.where(at)[0]
@@ -94,23 +86,6 @@ def blocks_of(shell: Shell, function: Function, at: Timeline, most: int = MOST_B
         low = max(low, hits[-1][0]) if len(hits) == most else low
     # Behind a poke, a state stands at the place of the one before.
     return sorted(each for each in found if each[0] >= low and not at.poke_at(each[0] - 1))[-most:]
-
-
-def blocks_forward(shell: Shell, function: Function, begun: Timeline, at: Timeline,
-                   most: int) -> list[tuple[int, str]]:
-    """The same, by runs forward from the beginning of the call. In a run back each stop makes the moves from a copy of
-    a state again, which takes some hundred times as long."""
-    labels, scratch = list(function.blocks), shell.session.scratch
-    found = {(begun.position, function.first)}
-    for first in range(0, len(labels), MOST_STOPS):
-        some: deque[tuple[int, str]] = deque(maxlen=most)
-        stops = [stop_line((function.name, label, 0)) for label in labels[first:first + MOST_STOPS]]
-        for hit in scratch.go(begun).hits(True, stops, last=at.position):
-            if hit.stop is None or hit.position > at.position:
-                break
-            some.append((hit.position, labels[first + hit.stop]))
-        found.update(some)
-    return sorted(found)[-most:]
 
 
 def folded(labels: Sequence[str]) -> list[tuple[list[str], int]]:

@@ -22,7 +22,7 @@ from terminal.text import ALLOCATIONS, DATA, JUMPS, LOADED, STORED, Instruction,
 from terminal.timeline import Timeline
 from terminal.values import is_stack
 from terminal.waiting import Waiting
-from terminal.ways import MOST_BLOCKS, MOST_FORWARD, blocks_of, last_times
+from terminal.ways import blocks_of, last_times
 
 from .soak import QuietShell
 
@@ -300,11 +300,8 @@ def way_faults(debugger: str, file: str, seed: int, questions: int) -> list[str]
         for _ in range(questions):
             position = chosen.choice(chosen.choice((begins, range(len(trace.states)))))
             function = shell.session.program.functions[trace.states[position].frames[0].function]
-            wanted = way_of(trace, position)
-            # Forward from the beginning of the call, and back from its state; all blocks, and the last two.
-            for reach, most in ((MOST_FORWARD, MOST_BLOCKS), (MOST_FORWARD, 2), (0, MOST_BLOCKS)):
-                told = blocks_of(shell, function, Timeline(position), most, reach)
-                found.append(None if told == wanted[-most:] else f"the way to #{position} is {told}, not {wanted}")
+            told, wanted = blocks_of(shell, function, Timeline(position)), way_of(trace, position)
+            found.append(None if told == wanted else f"the way to #{position} is {told} and not {wanted}")
             places = [(block.label, index) for block in function.blocks.values() for index in (0, len(block.body) - 1)]
             far = chosen.choice((10, FAR))
             times = last_times(shell, function, Timeline(position), list(dict.fromkeys(places)), far)
