@@ -91,7 +91,8 @@ class Wrapper:
         for name in ("check", "terminal", "page"):
             (self.top / name).symlink_to(TOP / name)
         (self.top / "release").mkdir()
-        shutil.copy(TOP / "release" / "program", self.top / "release" / "program")
+        for name in ("program", "words"):
+            shutil.copy(TOP / "release" / name, self.top / "release" / name)
         (self.top / "release" / "qrev-x86_64-linux").symlink_to(running.program)
         fits = self.top / "release" / "fits"
         fits.write_text("#!/bin/sh\nexit 0\n")
